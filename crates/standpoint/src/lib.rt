@@ -1,0 +1,19 @@
+// Standpoint EL+ with graded statements: what a third party needs to verify a verdict.
+pub use kinds::Kind;
+pub use kinds::Letter;
+pub use kinds::LetterGrade;
+pub use kinds::LetterKind;
+pub use kinds::Odds;
+pub use kinds::OddsGrade;
+pub use kinds::OddsKind;
+pub use kinds::Surcharge;
+pub use kinds::SurchargeKind;
+pub use kinds::Tally;
+pub use kinds::TallyGrade;
+pub use kinds::TallyKind;
+pub use refusal::Refusal;
+pub use sizes::Sizes;
+
+mod kinds;
+mod refusal;
+mod sizes;
