@@ -1,4 +1,10 @@
 pub mod Refusals
 pub mod Sizes
+pub mod Lists
 pub mod Algebra
 pub mod Grades
+pub mod Statements
+pub mod Rules
+pub mod Structures
+pub mod Derivations
+pub mod Steps

@@ -11,9 +11,17 @@ pub use kinds::SurchargeKind;
 pub use kinds::Tally;
 pub use kinds::TallyGrade;
 pub use kinds::TallyKind;
+pub use premises::Premises;
 pub use refusal::Refusal;
 pub use sizes::Sizes;
+pub use statement::Sort;
+pub use statement::Sorts;
+pub use statement::Statement;
+pub use step::Step;
 
 mod kinds;
+mod premises;
 mod refusal;
 mod sizes;
+mod statement;
+mod step;
