@@ -1,1 +1,2 @@
 pub mod GradeLaws
+pub mod Orders

@@ -22,8 +22,8 @@ pub data Leaf {G : Type 0} (a : Algebra G) (base : Base G) : Statement → G →
 pub data Derives {G : Type 0} (a : Algebra G) (base : Base G) : Statement → G → Type 0 where
   leaf : {x : Statement} {g : G} → Leaf a base x g → Derives a base x g
   one : {rule : ℕ} {p x : Statement} {g : G} → Rule (base .sizes .individuals) rule (p ∷ []) x →
-    Derives a base p g → Derives a base x g
+      Derives a base p g → Derives a base x g
   two : {rule : ℕ} {p q x : Statement} {g h : G} → Rule (base .sizes .individuals) rule (p ∷ q ∷ []) x →
-    Derives a base p g → Derives a base q h → Derives a base x (a .join g h)
+      Derives a base p g → Derives a base q h → Derives a base x (a .join g h)
   three : {rule : ℕ} {p q r x : Statement} {g h i : G} → Rule (base .sizes .individuals) rule (p ∷ q ∷ r ∷ []) x →
-    Derives a base p g → Derives a base q h → Derives a base r i → Derives a base x (a .join (a .join g h) i)
+      Derives a base p g → Derives a base q h → Derives a base r i → Derives a base x (a .join (a .join g h) i)

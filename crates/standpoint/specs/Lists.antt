@@ -7,7 +7,6 @@ use Prim.Native.Nat.{ℕ, _<_}
 use lib.ListN.{length, getD}
 
 infixr 60 _&_
-
 -- the answer to the question whether P holds
 abbrev pub Tells : Bool → Type 0 → Type 0
 Tells true P = P

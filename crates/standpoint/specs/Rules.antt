@@ -25,51 +25,51 @@ in-standpoint s x = statement (x .shape) s (x .second) (x .third) (x .fourth) (x
 -- Rule individuals number premises conclusion: the rule of that number gives the conclusion from the premises, which stand in joining order
 pub data Rule (individuals : ℕ) : ℕ → List Statement → Statement → Type 0 where
   role-transitive : {s r1 r2 r3 : ℕ} →
-    Rule individuals 1 (role-inclusion s r1 r2 ∷ role-inclusion s r2 r3 ∷ []) (role-inclusion s r1 r3)
+      Rule individuals 1 (role-inclusion s r1 r2 ∷ role-inclusion s r2 r3 ∷ []) (role-inclusion s r1 r3)
   sharper-transitive : {s t u : ℕ} →
-    Rule individuals 2 (sharper s t ∷ sharper t u ∷ []) (sharper s u)
+      Rule individuals 2 (sharper s t ∷ sharper t u ∷ []) (sharper s u)
   sharper-than-both : {s s1 s2 u : ℕ} →
-    Rule individuals 3 (sharper s s1 ∷ sharper s s2 ∷ intersection-sharper s1 s2 u ∷ []) (sharper s u)
+      Rule individuals 3 (sharper s s1 ∷ sharper s s2 ∷ intersection-sharper s1 s2 u ∷ []) (sharper s u)
   lowered : {x : Statement} {s : ℕ} → 3 ≤ x .shape → x .shape ≤ 9 →
-    Rule individuals 4 (x ∷ sharper s (x .first) ∷ []) (in-standpoint s x)
+      Rule individuals 4 (x ∷ sharper s (x .first) ∷ []) (in-standpoint s x)
   lowered-inside : {t c u s d e : ℕ} →
-    Rule individuals 5 (nested-inclusion t c u d e ∷ sharper s u ∷ []) (nested-inclusion t c s d e)
+      Rule individuals 5 (nested-inclusion t c u d e ∷ sharper s u ∷ []) (nested-inclusion t c s d e)
   inside-transitive : {t b s c d e : ℕ} →
-    Rule individuals 6 (nested-inclusion t b s c d ∷ nested-inclusion t b s d e ∷ []) (nested-inclusion t b s c e)
+      Rule individuals 6 (nested-inclusion t b s c d ∷ nested-inclusion t b s d e ∷ []) (nested-inclusion t b s c e)
   subsumed-nested : {v t b c s d e : ℕ} →
-    Rule individuals 7 (nested-inclusion v 0 t b c ∷ nested-inclusion t c s d e ∷ []) (nested-inclusion t b s d e)
+      Rule individuals 7 (nested-inclusion v 0 t b c ∷ nested-inclusion t c s d e ∷ []) (nested-inclusion t b s d e)
   subsumed-possible : {v t c d s e : ℕ} →
-    Rule individuals 8 (nested-inclusion v 0 t c d ∷ possible-inclusion t d s e ∷ []) (possible-inclusion t c s e)
+      Rule individuals 8 (nested-inclusion v 0 t c d ∷ possible-inclusion t d s e ∷ []) (possible-inclusion t c s e)
   possible-widened : {t c s d e : ℕ} →
-    Rule individuals 9 (possible-inclusion t c s d ∷ nested-inclusion t c s d e ∷ []) (possible-inclusion t c s e)
+      Rule individuals 9 (possible-inclusion t c s d ∷ nested-inclusion t c s d e ∷ []) (possible-inclusion t c s e)
   necessary-then-nested : {t c u d s e f : ℕ} →
-    Rule individuals 10 (nested-inclusion t c u 0 d ∷ nested-inclusion u d s e f ∷ []) (nested-inclusion t c s e f)
+      Rule individuals 10 (nested-inclusion t c u 0 d ∷ nested-inclusion u d s e f ∷ []) (nested-inclusion t c s e f)
   necessary-then-possible : {t c u d s e : ℕ} →
-    Rule individuals 11 (nested-inclusion t c u 0 d ∷ possible-inclusion u d s e ∷ []) (possible-inclusion t c s e)
+      Rule individuals 11 (nested-inclusion t c u 0 d ∷ possible-inclusion u d s e ∷ []) (possible-inclusion t c s e)
   possible-then-nested : {t c u d s e f : ℕ} →
-    Rule individuals 12 (possible-inclusion t c u d ∷ nested-inclusion u d s e f ∷ []) (nested-inclusion t c s e f)
+      Rule individuals 12 (possible-inclusion t c u d ∷ nested-inclusion u d s e f ∷ []) (nested-inclusion t c s e f)
   possible-then-possible : {t c u d s e : ℕ} →
-    Rule individuals 13 (possible-inclusion t c u d ∷ possible-inclusion u d s e ∷ []) (possible-inclusion t c s e)
+      Rule individuals 13 (possible-inclusion t c u d ∷ possible-inclusion u d s e ∷ []) (possible-inclusion t c s e)
   existential-widened : {s c r1 r2 d v e : ℕ} →
-    Rule individuals 14 (existential-right s c r1 d ∷ nested-inclusion v 0 s d e ∷ role-inclusion s r1 r2 ∷ []) (existential-right s c r2 e)
+      Rule individuals 14 (existential-right s c r1 d ∷ nested-inclusion v 0 s d e ∷ role-inclusion s r1 r2 ∷ []) (existential-right s c r2 e)
   existential-chained : {s c r1 r2 r3 d e : ℕ} →
-    Rule individuals 15 (existential-right s c r1 d ∷ existential-right s d r2 e ∷ role-chain s r1 r2 r3 ∷ []) (existential-right s c r3 e)
+      Rule individuals 15 (existential-right s c r1 d ∷ existential-right s d r2 e ∷ role-chain s r1 r2 r3 ∷ []) (existential-right s c r3 e)
   existential-met : {s c r d f : ℕ} →
-    Rule individuals 16 (existential-right s c r d ∷ existential-left s r d f ∷ []) (nested-inclusion 0 0 s c f)
+      Rule individuals 16 (existential-right s c r d ∷ existential-left s r d f ∷ []) (nested-inclusion 0 0 s c f)
   conjunction-met : {t b s c c1 c2 d : ℕ} →
-    Rule individuals 17 (nested-inclusion t b s c c1 ∷ nested-inclusion t b s c c2 ∷ conjunction-left s c1 c2 d ∷ []) (nested-inclusion t b s c d)
+      Rule individuals 17 (nested-inclusion t b s c c1 ∷ nested-inclusion t b s c c2 ∷ conjunction-left s c1 c2 d ∷ []) (nested-inclusion t b s c d)
   necessary-here : {s c d : ℕ} →
-    Rule individuals 18 (nested-inclusion s c s 0 d ∷ []) (nested-inclusion 0 0 s c d)
+      Rule individuals 18 (nested-inclusion s c s 0 d ∷ []) (nested-inclusion 0 0 s c d)
   of-all-things : {v s c d : ℕ} →
-    Rule individuals 19 (nested-inclusion v 0 s c d ∷ []) (nested-inclusion 0 0 s c d)
+      Rule individuals 19 (nested-inclusion v 0 s c d ∷ []) (nested-inclusion 0 0 s c d)
   existential-empty : {s c r : ℕ} →
-    Rule individuals 20 (existential-right s c r 1 ∷ []) (nested-inclusion 0 0 s c 1)
+      Rule individuals 20 (existential-right s c r 1 ∷ []) (nested-inclusion 0 0 s c 1)
   necessary-empty : {t c v : ℕ} →
-    Rule individuals 21 (nested-inclusion t c v 0 1 ∷ []) (nested-inclusion 0 0 t c 1)
+      Rule individuals 21 (nested-inclusion t c v 0 1 ∷ []) (nested-inclusion 0 0 t c 1)
   possible-empty : {s c v : ℕ} →
-    Rule individuals 22 (possible-inclusion s c v 1 ∷ []) (nested-inclusion 0 0 s c 1)
+      Rule individuals 22 (possible-inclusion s c v 1 ∷ []) (nested-inclusion 0 0 s c 1)
   individual-empty : {v a u : ℕ} → Individual individuals a →
-    Rule individuals 23 (nested-inclusion v a u 0 1 ∷ []) contradiction
+      Rule individuals 23 (nested-inclusion v a u 0 1 ∷ []) contradiction
 
 -- the premises in joining order
 abbrev pub listed : Premises → List Statement

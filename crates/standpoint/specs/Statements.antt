@@ -93,6 +93,24 @@ Fits n x = Sorted n (sorts-of (x .shape)) x
 abbrev pub Individual : ℕ → ℕ → Type 0
 Individual individuals a = (2 ≤ a) × (a < individuals + 2)
 
+-- a number of this sort is an individual: only concepts are
+abbrev pub Names-individual : ℕ → Sort → ℕ → Type 0
+Names-individual individuals Standpoint k = ⊥
+Names-individual individuals Concept k = Individual individuals k
+Names-individual individuals Role k = ⊥
+Names-individual individuals Unused k = ⊥
+
+abbrev pub Misplaced-in : ℕ → Option Sorts → Statement → Type 0
+Misplaced-in individuals None x = ⊥
+Misplaced-in individuals (Some p) x =
+    Names-individual individuals (p .first) (x .first) ⊎ (((x .shape ≡ 3 → ⊥) × Names-individual individuals (p .second) (x .second))
+    ⊎ (Names-individual individuals (p .third) (x .third) ⊎ (Names-individual individuals (p .fourth) (x .fourth)
+    ⊎ Names-individual individuals (p .fifth) (x .fifth))))
+
+-- a number other than the second of a nested inclusion is an individual
+abbrev pub Misplaced : ℕ → Statement → Type 0
+Misplaced individuals x = Misplaced-in individuals (sorts-of (x .shape)) x
+
 -- one place of a lexicographic order: smaller here, or the same here and smaller in the rest
 abbrev pub Smaller-or : ℕ → ℕ → Type 0 → Type 0
 Smaller-or m n rest = (m < n) ⊎ ((m ≡ n) × rest)
@@ -101,4 +119,4 @@ Smaller-or m n rest = (m < n) ⊎ ((m ≡ n) × rest)
 abbrev pub Before : Statement → Statement → Type 0
 Before x y =
     Smaller-or (x .shape) (y .shape) (Smaller-or (x .first) (y .first) (Smaller-or (x .second) (y .second)
-      (Smaller-or (x .third) (y .third) (Smaller-or (x .fourth) (y .fourth) (x .fifth < y .fifth)))))
+    (Smaller-or (x .third) (y .third) (Smaller-or (x .fourth) (y .fourth) (x .fifth < y .fifth)))))

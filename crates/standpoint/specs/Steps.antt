@@ -25,18 +25,18 @@ Earlier steps n place p = (1 ≤ place) × (place ≤ n) × Stands-at steps (pla
 -- the rule, the premises' places, the statement and the grade of a step agree, with n steps before it
 pub data Agrees {G : Type 0} (a : Algebra G) (base : Base G) (steps : List (Step G)) (n : ℕ) (s : Step G) : Type 0 where
   by-acceptance : s .rule ≡ 0 → s .first ≡ 0 → s .second ≡ 0 → s .third ≡ 0 →
-    In (base .accepted) (given s) → Agrees a base steps n s
+      In (base .accepted) (given s) → Agrees a base steps n s
   by-tautology : s .rule ≡ 24 → s .first ≡ 0 → s .second ≡ 0 → s .third ≡ 0 →
-    Tautology (base .sizes) (s .statement) → s .grade ≡ a .start → Agrees a base steps n s
+      Tautology (base .sizes) (s .statement) → s .grade ≡ a .start → Agrees a base steps n s
   by-one : (p : Step G) → Earlier steps n (s .first) p → s .second ≡ 0 → s .third ≡ 0 →
-    Rule (base .sizes .individuals) (s .rule) (p .statement ∷ []) (s .statement) →
-    s .grade ≡ p .grade → Agrees a base steps n s
+      Rule (base .sizes .individuals) (s .rule) (p .statement ∷ []) (s .statement) →
+      s .grade ≡ p .grade → Agrees a base steps n s
   by-two : (p q : Step G) → Earlier steps n (s .first) p → Earlier steps n (s .second) q → s .third ≡ 0 →
-    Rule (base .sizes .individuals) (s .rule) (p .statement ∷ q .statement ∷ []) (s .statement) →
-    s .grade ≡ a .join (p .grade) (q .grade) → Agrees a base steps n s
+      Rule (base .sizes .individuals) (s .rule) (p .statement ∷ q .statement ∷ []) (s .statement) →
+      s .grade ≡ a .join (p .grade) (q .grade) → Agrees a base steps n s
   by-three : (p q r : Step G) → Earlier steps n (s .first) p → Earlier steps n (s .second) q → Earlier steps n (s .third) r →
-    Rule (base .sizes .individuals) (s .rule) (p .statement ∷ q .statement ∷ r .statement ∷ []) (s .statement) →
-    s .grade ≡ a .join (a .join (p .grade) (q .grade)) (r .grade) → Agrees a base steps n s
+      Rule (base .sizes .individuals) (s .rule) (p .statement ∷ q .statement ∷ r .statement ∷ []) (s .statement) →
+      s .grade ≡ a .join (a .join (p .grade) (q .grade)) (r .grade) → Agrees a base steps n s
 
 -- a step is right: its statement fits, and all of it agrees
 pub record Right {G : Type 0} (a : Algebra G) (base : Base G) (steps : List (Step G)) (n : ℕ) (s : Step G) : Type 0 where

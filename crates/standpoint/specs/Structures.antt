@@ -26,7 +26,7 @@ pub record Structure (n : Sizes) : Type 0 where
   pub bottom-none : (π δ : ℕ) → T (concept π 1 δ) → ⊥
   -- exactly one thing, the same in every precisification
   pub individual-thing : (a : ℕ) → Individual (n .individuals) a →
-    (δ : ℕ) × ((π : ℕ) → T (precisification π) → T (concept π a δ) × ((ε : ℕ) → T (concept π a ε) → ε ≡ δ))
+      (δ : ℕ) × ((π : ℕ) → T (precisification π) → T (concept π a δ) × ((ε : ℕ) → T (concept π a ε) → ε ≡ δ))
 
 module _ {n : Sizes} (M : Structure n) where
   -- the precisification π belongs to the standpoint s
@@ -44,20 +44,20 @@ module _ {n : Sizes} (M : Structure n) where
   -- the structure meets a statement: what the statement says holds there
   pub data Meets : Statement → Type 0 where
     meets-sharper : {s u : ℕ} →
-      ((π : ℕ) → In s π → In u π) → Meets (sharper s u)
+        ((π : ℕ) → In s π → In u π) → Meets (sharper s u)
     meets-intersection-sharper : {s1 s2 u : ℕ} →
-      ((π : ℕ) → In s1 π → In s2 π → In u π) → Meets (intersection-sharper s1 s2 u)
+        ((π : ℕ) → In s1 π → In s2 π → In u π) → Meets (intersection-sharper s1 s2 u)
     meets-nested-inclusion : {t b s c d : ℕ} →
-      ((π : ℕ) → In t π → (δ : ℕ) → Is π b δ → (ρ : ℕ) → In s ρ → Is ρ c δ → Is ρ d δ) → Meets (nested-inclusion t b s c d)
+        ((π : ℕ) → In t π → (δ : ℕ) → Is π b δ → (ρ : ℕ) → In s ρ → Is ρ c δ → Is ρ d δ) → Meets (nested-inclusion t b s c d)
     meets-possible-inclusion : {t c s d : ℕ} →
-      ((π : ℕ) → In t π → (δ : ℕ) → Is π c δ → (ρ : ℕ) × In s ρ × Is ρ d δ) → Meets (possible-inclusion t c s d)
+        ((π : ℕ) → In t π → (δ : ℕ) → Is π c δ → (ρ : ℕ) × In s ρ × Is ρ d δ) → Meets (possible-inclusion t c s d)
     meets-existential-right : {s c r d : ℕ} →
-      ((π : ℕ) → In s π → (δ : ℕ) → Is π c δ → (ε : ℕ) × Has π r δ ε × Is π d ε) → Meets (existential-right s c r d)
+        ((π : ℕ) → In s π → (δ : ℕ) → Is π c δ → (ε : ℕ) × Has π r δ ε × Is π d ε) → Meets (existential-right s c r d)
     meets-existential-left : {s r c d : ℕ} →
-      ((π : ℕ) → In s π → (δ ε : ℕ) → Has π r δ ε → Is π c ε → Is π d δ) → Meets (existential-left s r c d)
+        ((π : ℕ) → In s π → (δ ε : ℕ) → Has π r δ ε → Is π c ε → Is π d δ) → Meets (existential-left s r c d)
     meets-conjunction-left : {s c1 c2 d : ℕ} →
-      ((π : ℕ) → In s π → (δ : ℕ) → Is π c1 δ → Is π c2 δ → Is π d δ) → Meets (conjunction-left s c1 c2 d)
+        ((π : ℕ) → In s π → (δ : ℕ) → Is π c1 δ → Is π c2 δ → Is π d δ) → Meets (conjunction-left s c1 c2 d)
     meets-role-inclusion : {s r1 r2 : ℕ} →
-      ((π : ℕ) → In s π → (δ ε : ℕ) → Has π r1 δ ε → Has π r2 δ ε) → Meets (role-inclusion s r1 r2)
+        ((π : ℕ) → In s π → (δ ε : ℕ) → Has π r1 δ ε → Has π r2 δ ε) → Meets (role-inclusion s r1 r2)
     meets-role-chain : {s r1 r2 r3 : ℕ} →
-      ((π : ℕ) → In s π → (δ ε ζ : ℕ) → Has π r1 δ ε → Has π r2 ε ζ → Has π r3 δ ζ) → Meets (role-chain s r1 r2 r3)
+        ((π : ℕ) → In s π → (δ ε ζ : ℕ) → Has π r1 δ ε → Has π r2 ε ζ → Has π r3 δ ζ) → Meets (role-chain s r1 r2 r3)

@@ -19,6 +19,7 @@ pub use statement::Sorts;
 pub use statement::Statement;
 pub use step::Step;
 
+mod fits;
 mod kinds;
 mod premises;
 mod refusal;
