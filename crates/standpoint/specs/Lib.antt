@@ -8,3 +8,4 @@ pub mod Rules
 pub mod Structures
 pub mod Derivations
 pub mod Steps
+pub mod Conclusions

@@ -1,6 +1,6 @@
 -- Statements by the names of their shapes, what their numbers name, and their order.
 use mathlib.Core.Path.{_≡_}
-use mathlib.Core.Bool.{cond}
+use mathlib.Core.Bool.{Bool, cond, _&&_}
 use mathlib.Core.Logic.{_⊎_}
 use Prim.Native.Nat.{ℕ, _+_, _<_, _≤_}
 use lib.Dec.{eqb}
@@ -110,6 +110,12 @@ Misplaced-in individuals (Some p) x =
 -- a number other than the second of a nested inclusion is an individual
 abbrev pub Misplaced : ℕ → Statement → Type 0
 Misplaced individuals x = Misplaced-in individuals (sorts-of (x .shape)) x
+
+-- whether two statements are the same
+unfoldable pub same : Statement → Statement → Bool
+same x y =
+    eqb (x .shape) (y .shape) && (eqb (x .first) (y .first) && (eqb (x .second) (y .second) && (eqb (x .third) (y .third)
+    && (eqb (x .fourth) (y .fourth) && eqb (x .fifth) (y .fifth)))))
 
 -- one place of a lexicographic order: smaller here, or the same here and smaller in the rest
 abbrev pub Smaller-or : ℕ → ℕ → Type 0 → Type 0

@@ -1,7 +1,7 @@
 // Statements in normal form.
 ghost use mathlib.Core.Path.{_≡_};
 ghost use Rattle.standpoint.specs.Lists.{Tells};
-ghost use Rattle.standpoint.specs.Statements.{Before, statement, sharper, intersection-sharper, nested-inclusion, possible-inclusion, existential-right, existential-left, conjunction-left, role-inclusion, role-chain};
+ghost use Rattle.standpoint.specs.Statements.{Before, same, statement, sharper, intersection-sharper, nested-inclusion, possible-inclusion, existential-right, existential-left, conjunction-left, role-inclusion, role-chain};
 
 // A statement: its shape, 1 to 9, and five numbers, unused ones 0; ordered by the fields in turn.
 #[derive(Clone, Copy, PartialEq, Eq, PartialOrd, Ord)]
@@ -86,6 +86,13 @@ impl Statement {
         ensures { λ x. ⌜ x ≡ role-chain s r1 r2 r3 ⌝ }
     {
         Statement::numbered(9, s, r1, r2, r3, 0)
+    }
+
+    // Whether this is the same statement as another.
+    pub fn same(self, other: Statement) -> bool
+        ensures { λ r. ⌜ r ≡ same self other ⌝ }
+    {
+        self == other
     }
 
     // Whether this statement stands before another.

@@ -1,0 +1,72 @@
+// Rules on what is empty.
+ghost use mathlib.Core.Path.{_≡_};
+ghost use Rattle.standpoint.specs.Conclusions.{existential-empty, necessary-empty, possible-empty, individual-empty};
+use crate::statement::Statement;
+
+// 20: Nothing has a role to nothing.
+pub fn existential_empty(p: Statement) -> Option<Statement>
+    ensures { λ x. ⌜ x ≡ existential-empty p ⌝ }
+{
+    let Statement {
+        first: s,
+        second: c,
+        third: r,
+        ..
+    } = p;
+    if p.same(Statement::existential_right(s, c, r, 1)) {
+        Some(Statement::nested_inclusion(0, 0, s, c, 1))
+    } else {
+        None
+    }
+}
+
+// 21: What is nowhere is nothing.
+pub fn necessary_empty(p: Statement) -> Option<Statement>
+    ensures { λ x. ⌜ x ≡ necessary-empty p ⌝ }
+{
+    let Statement {
+        first: t,
+        second: c,
+        third: v,
+        ..
+    } = p;
+    if p.same(Statement::nested_inclusion(t, c, v, 0, 1)) {
+        Some(Statement::nested_inclusion(0, 0, t, c, 1))
+    } else {
+        None
+    }
+}
+
+// 22: What is somewhere nothing is nothing.
+pub fn possible_empty(p: Statement) -> Option<Statement>
+    ensures { λ x. ⌜ x ≡ possible-empty p ⌝ }
+{
+    let Statement {
+        first: s,
+        second: c,
+        third: v,
+        ..
+    } = p;
+    if p.same(Statement::possible_inclusion(s, c, v, 1)) {
+        Some(Statement::nested_inclusion(0, 0, s, c, 1))
+    } else {
+        None
+    }
+}
+
+// 23: An individual is something.
+pub fn individual_empty(individuals: u16, p: Statement) -> Option<Statement>
+    ensures { λ x. ⌜ x ≡ individual-empty individuals p ⌝ }
+{
+    let Statement {
+        first: v,
+        second: a,
+        third: u,
+        ..
+    } = p;
+    if p.same(Statement::nested_inclusion(v, a, u, 0, 1)) && a >= 2 && a - 2 < individuals {
+        Some(Statement::CONTRADICTION)
+    } else {
+        None
+    }
+}

@@ -1,0 +1,259 @@
+// Rules on what concepts lie within.
+ghost use mathlib.Core.Path.{_≡_};
+ghost use Rattle.standpoint.specs.Conclusions.{inside-transitive, subsumed-nested, subsumed-possible, possible-widened, necessary-then-nested, necessary-then-possible, possible-then-nested, possible-then-possible, conjunction-met, necessary-here, of-all-things};
+use crate::statement::Statement;
+
+// 6: c is d, and d is e.
+pub fn inside_transitive(p: Statement, q: Statement) -> Option<Statement>
+    ensures { λ x. ⌜ x ≡ inside-transitive p q ⌝ }
+{
+    let Statement {
+        first: t,
+        second: b,
+        third: s,
+        fourth: c,
+        fifth: d,
+        ..
+    } = p;
+    let Statement { fifth: e, .. } = q;
+    if p.same(Statement::nested_inclusion(t, b, s, c, d))
+        && q.same(Statement::nested_inclusion(t, b, s, d, e))
+    {
+        Some(Statement::nested_inclusion(t, b, s, c, e))
+    } else {
+        None
+    }
+}
+
+// 7: b is c throughout t.
+pub fn subsumed_nested(p: Statement, q: Statement) -> Option<Statement>
+    ensures { λ x. ⌜ x ≡ subsumed-nested p q ⌝ }
+{
+    let Statement {
+        first: v,
+        third: t,
+        fourth: b,
+        fifth: c,
+        ..
+    } = p;
+    let Statement {
+        third: s,
+        fourth: d,
+        fifth: e,
+        ..
+    } = q;
+    if p.same(Statement::nested_inclusion(v, 0, t, b, c))
+        && q.same(Statement::nested_inclusion(t, c, s, d, e))
+    {
+        Some(Statement::nested_inclusion(t, b, s, d, e))
+    } else {
+        None
+    }
+}
+
+// 8: c is d throughout t.
+pub fn subsumed_possible(p: Statement, q: Statement) -> Option<Statement>
+    ensures { λ x. ⌜ x ≡ subsumed-possible p q ⌝ }
+{
+    let Statement {
+        first: v,
+        third: t,
+        fourth: c,
+        fifth: d,
+        ..
+    } = p;
+    let Statement {
+        third: s,
+        fourth: e,
+        ..
+    } = q;
+    if p.same(Statement::nested_inclusion(v, 0, t, c, d))
+        && q.same(Statement::possible_inclusion(t, d, s, e))
+    {
+        Some(Statement::possible_inclusion(t, c, s, e))
+    } else {
+        None
+    }
+}
+
+// 9: Somewhere d, where d is e.
+pub fn possible_widened(p: Statement, q: Statement) -> Option<Statement>
+    ensures { λ x. ⌜ x ≡ possible-widened p q ⌝ }
+{
+    let Statement {
+        first: t,
+        second: c,
+        third: s,
+        fourth: d,
+        ..
+    } = p;
+    let Statement { fifth: e, .. } = q;
+    if p.same(Statement::possible_inclusion(t, c, s, d))
+        && q.same(Statement::nested_inclusion(t, c, s, d, e))
+    {
+        Some(Statement::possible_inclusion(t, c, s, e))
+    } else {
+        None
+    }
+}
+
+// 10: Throughout u d, and there each d is nested.
+pub fn necessary_then_nested(p: Statement, q: Statement) -> Option<Statement>
+    ensures { λ x. ⌜ x ≡ necessary-then-nested p q ⌝ }
+{
+    let Statement {
+        first: t,
+        second: c,
+        third: u,
+        fifth: d,
+        ..
+    } = p;
+    let Statement {
+        third: s,
+        fourth: e,
+        fifth: f,
+        ..
+    } = q;
+    if p.same(Statement::nested_inclusion(t, c, u, 0, d))
+        && q.same(Statement::nested_inclusion(u, d, s, e, f))
+    {
+        Some(Statement::nested_inclusion(t, c, s, e, f))
+    } else {
+        None
+    }
+}
+
+// 11: Throughout u d, and there each d is somewhere e.
+pub fn necessary_then_possible(p: Statement, q: Statement) -> Option<Statement>
+    ensures { λ x. ⌜ x ≡ necessary-then-possible p q ⌝ }
+{
+    let Statement {
+        first: t,
+        second: c,
+        third: u,
+        fifth: d,
+        ..
+    } = p;
+    let Statement {
+        third: s,
+        fourth: e,
+        ..
+    } = q;
+    if p.same(Statement::nested_inclusion(t, c, u, 0, d))
+        && q.same(Statement::possible_inclusion(u, d, s, e))
+    {
+        Some(Statement::possible_inclusion(t, c, s, e))
+    } else {
+        None
+    }
+}
+
+// 12: Somewhere in u d, and there each d is nested.
+pub fn possible_then_nested(p: Statement, q: Statement) -> Option<Statement>
+    ensures { λ x. ⌜ x ≡ possible-then-nested p q ⌝ }
+{
+    let Statement {
+        first: t,
+        second: c,
+        third: u,
+        fourth: d,
+        ..
+    } = p;
+    let Statement {
+        third: s,
+        fourth: e,
+        fifth: f,
+        ..
+    } = q;
+    if p.same(Statement::possible_inclusion(t, c, u, d))
+        && q.same(Statement::nested_inclusion(u, d, s, e, f))
+    {
+        Some(Statement::nested_inclusion(t, c, s, e, f))
+    } else {
+        None
+    }
+}
+
+// 13: Somewhere in u d, and there each d is somewhere e.
+pub fn possible_then_possible(p: Statement, q: Statement) -> Option<Statement>
+    ensures { λ x. ⌜ x ≡ possible-then-possible p q ⌝ }
+{
+    let Statement {
+        first: t,
+        second: c,
+        third: u,
+        fourth: d,
+        ..
+    } = p;
+    let Statement {
+        third: s,
+        fourth: e,
+        ..
+    } = q;
+    if p.same(Statement::possible_inclusion(t, c, u, d))
+        && q.same(Statement::possible_inclusion(u, d, s, e))
+    {
+        Some(Statement::possible_inclusion(t, c, s, e))
+    } else {
+        None
+    }
+}
+
+// 17: c is c1 and c2, so d.
+pub fn conjunction_met(p: Statement, q: Statement, r: Statement) -> Option<Statement>
+    ensures { λ x. ⌜ x ≡ conjunction-met p q r ⌝ }
+{
+    let Statement {
+        first: t,
+        second: b,
+        third: s,
+        fourth: c,
+        fifth: c1,
+        ..
+    } = p;
+    let Statement { fifth: c2, .. } = q;
+    let Statement { fourth: d, .. } = r;
+    if p.same(Statement::nested_inclusion(t, b, s, c, c1))
+        && q.same(Statement::nested_inclusion(t, b, s, c, c2))
+        && r.same(Statement::conjunction_left(s, c1, c2, d))
+    {
+        Some(Statement::nested_inclusion(t, b, s, c, d))
+    } else {
+        None
+    }
+}
+
+// 18: What is necessary here holds here.
+pub fn necessary_here(p: Statement) -> Option<Statement>
+    ensures { λ x. ⌜ x ≡ necessary-here p ⌝ }
+{
+    let Statement {
+        first: s,
+        second: c,
+        fifth: d,
+        ..
+    } = p;
+    if p.same(Statement::nested_inclusion(s, c, s, 0, d)) {
+        Some(Statement::nested_inclusion(0, 0, s, c, d))
+    } else {
+        None
+    }
+}
+
+// 19: What holds of all things holds of each b.
+pub fn of_all_things(p: Statement) -> Option<Statement>
+    ensures { λ x. ⌜ x ≡ of-all-things p ⌝ }
+{
+    let Statement {
+        first: v,
+        third: s,
+        fourth: c,
+        fifth: d,
+        ..
+    } = p;
+    if p.same(Statement::nested_inclusion(v, 0, s, c, d)) {
+        Some(Statement::nested_inclusion(0, 0, s, c, d))
+    } else {
+        None
+    }
+}

@@ -1,0 +1,74 @@
+// Rules on sharper standpoints.
+ghost use mathlib.Core.Path.{_≡_};
+ghost use Rattle.standpoint.specs.Conclusions.{sharper-transitive, sharper-than-both, lowered, lowered-inside};
+use crate::statement::Statement;
+
+// 2: Sharper than t, which is sharper than u.
+pub fn sharper_transitive(p: Statement, q: Statement) -> Option<Statement>
+    ensures { λ x. ⌜ x ≡ sharper-transitive p q ⌝ }
+{
+    let Statement {
+        first: s,
+        second: t,
+        ..
+    } = p;
+    let Statement { second: u, .. } = q;
+    if p.same(Statement::sharper(s, t)) && q.same(Statement::sharper(t, u)) {
+        Some(Statement::sharper(s, u))
+    } else {
+        None
+    }
+}
+
+// 3: Sharper than both, and so than what both together are sharper than.
+pub fn sharper_than_both(p: Statement, q: Statement, r: Statement) -> Option<Statement>
+    ensures { λ x. ⌜ x ≡ sharper-than-both p q r ⌝ }
+{
+    let Statement {
+        first: s,
+        second: s1,
+        ..
+    } = p;
+    let Statement { second: s2, .. } = q;
+    let Statement { third: u, .. } = r;
+    if p.same(Statement::sharper(s, s1))
+        && q.same(Statement::sharper(s, s2))
+        && r.same(Statement::intersection_sharper(s1, s2, u))
+    {
+        Some(Statement::sharper(s, u))
+    } else {
+        None
+    }
+}
+
+// 4: What holds in u holds in a sharper s.
+pub fn lowered(x: Statement, q: Statement) -> Option<Statement>
+    ensures { λ r. ⌜ r ≡ lowered x q ⌝ }
+{
+    let Statement { first: s, .. } = q;
+    if x.shape >= 3 && x.shape <= 9 && q.same(Statement::sharper(s, x.first)) {
+        Some(Statement { first: s, ..x })
+    } else {
+        None
+    }
+}
+
+// 5: What holds throughout u holds throughout a sharper s.
+pub fn lowered_inside(p: Statement, q: Statement) -> Option<Statement>
+    ensures { λ x. ⌜ x ≡ lowered-inside p q ⌝ }
+{
+    let Statement {
+        first: t,
+        second: c,
+        third: u,
+        fourth: d,
+        fifth: e,
+        ..
+    } = p;
+    let Statement { first: s, .. } = q;
+    if p.same(Statement::nested_inclusion(t, c, u, d, e)) && q.same(Statement::sharper(s, u)) {
+        Some(Statement::nested_inclusion(t, c, s, d, e))
+    } else {
+        None
+    }
+}
