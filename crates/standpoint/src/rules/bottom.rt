@@ -7,12 +7,7 @@ use crate::statement::Statement;
 pub fn existential_empty(p: Statement) -> Option<Statement>
     ensures { λ x. ⌜ x ≡ existential-empty p ⌝ }
 {
-    let Statement {
-        first: s,
-        second: c,
-        third: r,
-        ..
-    } = p;
+    let (s, c, r) = (p.first, p.second, p.third);
     if p.same(Statement::existential_right(s, c, r, 1)) {
         Some(Statement::nested_inclusion(0, 0, s, c, 1))
     } else {
@@ -24,12 +19,7 @@ pub fn existential_empty(p: Statement) -> Option<Statement>
 pub fn necessary_empty(p: Statement) -> Option<Statement>
     ensures { λ x. ⌜ x ≡ necessary-empty p ⌝ }
 {
-    let Statement {
-        first: t,
-        second: c,
-        third: v,
-        ..
-    } = p;
+    let (t, c, v) = (p.first, p.second, p.third);
     if p.same(Statement::nested_inclusion(t, c, v, 0, 1)) {
         Some(Statement::nested_inclusion(0, 0, t, c, 1))
     } else {
@@ -41,12 +31,7 @@ pub fn necessary_empty(p: Statement) -> Option<Statement>
 pub fn possible_empty(p: Statement) -> Option<Statement>
     ensures { λ x. ⌜ x ≡ possible-empty p ⌝ }
 {
-    let Statement {
-        first: s,
-        second: c,
-        third: v,
-        ..
-    } = p;
+    let (s, c, v) = (p.first, p.second, p.third);
     if p.same(Statement::possible_inclusion(s, c, v, 1)) {
         Some(Statement::nested_inclusion(0, 0, s, c, 1))
     } else {
@@ -58,12 +43,7 @@ pub fn possible_empty(p: Statement) -> Option<Statement>
 pub fn individual_empty(individuals: u16, p: Statement) -> Option<Statement>
     ensures { λ x. ⌜ x ≡ individual-empty individuals p ⌝ }
 {
-    let Statement {
-        first: v,
-        second: a,
-        third: u,
-        ..
-    } = p;
+    let (v, a, u) = (p.first, p.second, p.third);
     if p.same(Statement::nested_inclusion(v, a, u, 0, 1)) && a >= 2 && a - 2 < individuals {
         Some(Statement::CONTRADICTION)
     } else {

@@ -7,19 +7,9 @@ use crate::statement::Statement;
 pub fn existential_widened(p: Statement, q: Statement, r: Statement) -> Option<Statement>
     ensures { λ x. ⌜ x ≡ existential-widened p q r ⌝ }
 {
-    let Statement {
-        first: s,
-        second: c,
-        third: r1,
-        fourth: d,
-        ..
-    } = p;
-    let Statement {
-        first: v,
-        fifth: e,
-        ..
-    } = q;
-    let Statement { third: r2, .. } = r;
+    let (s, c, r1, d) = (p.first, p.second, p.third, p.fourth);
+    let (v, e) = (q.first, q.fifth);
+    let r2 = r.third;
     if p.same(Statement::existential_right(s, c, r1, d))
         && q.same(Statement::nested_inclusion(v, 0, s, d, e))
         && r.same(Statement::role_inclusion(s, r1, r2))
@@ -34,19 +24,9 @@ pub fn existential_widened(p: Statement, q: Statement, r: Statement) -> Option<S
 pub fn existential_chained(p: Statement, q: Statement, r: Statement) -> Option<Statement>
     ensures { λ x. ⌜ x ≡ existential-chained p q r ⌝ }
 {
-    let Statement {
-        first: s,
-        second: c,
-        third: r1,
-        fourth: d,
-        ..
-    } = p;
-    let Statement {
-        third: r2,
-        fourth: e,
-        ..
-    } = q;
-    let Statement { fourth: r3, .. } = r;
+    let (s, c, r1, d) = (p.first, p.second, p.third, p.fourth);
+    let (r2, e) = (q.third, q.fourth);
+    let r3 = r.fourth;
     if p.same(Statement::existential_right(s, c, r1, d))
         && q.same(Statement::existential_right(s, d, r2, e))
         && r.same(Statement::role_chain(s, r1, r2, r3))
@@ -61,14 +41,8 @@ pub fn existential_chained(p: Statement, q: Statement, r: Statement) -> Option<S
 pub fn existential_met(p: Statement, q: Statement) -> Option<Statement>
     ensures { λ x. ⌜ x ≡ existential-met p q ⌝ }
 {
-    let Statement {
-        first: s,
-        second: c,
-        third: r,
-        fourth: d,
-        ..
-    } = p;
-    let Statement { fourth: f, .. } = q;
+    let (s, c, r, d) = (p.first, p.second, p.third, p.fourth);
+    let f = q.fourth;
     if p.same(Statement::existential_right(s, c, r, d))
         && q.same(Statement::existential_left(s, r, d, f))
     {

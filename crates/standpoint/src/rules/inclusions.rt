@@ -7,15 +7,8 @@ use crate::statement::Statement;
 pub fn inside_transitive(p: Statement, q: Statement) -> Option<Statement>
     ensures { λ x. ⌜ x ≡ inside-transitive p q ⌝ }
 {
-    let Statement {
-        first: t,
-        second: b,
-        third: s,
-        fourth: c,
-        fifth: d,
-        ..
-    } = p;
-    let Statement { fifth: e, .. } = q;
+    let (t, b, s, c, d) = (p.first, p.second, p.third, p.fourth, p.fifth);
+    let e = q.fifth;
     if p.same(Statement::nested_inclusion(t, b, s, c, d))
         && q.same(Statement::nested_inclusion(t, b, s, d, e))
     {
@@ -29,19 +22,8 @@ pub fn inside_transitive(p: Statement, q: Statement) -> Option<Statement>
 pub fn subsumed_nested(p: Statement, q: Statement) -> Option<Statement>
     ensures { λ x. ⌜ x ≡ subsumed-nested p q ⌝ }
 {
-    let Statement {
-        first: v,
-        third: t,
-        fourth: b,
-        fifth: c,
-        ..
-    } = p;
-    let Statement {
-        third: s,
-        fourth: d,
-        fifth: e,
-        ..
-    } = q;
+    let (v, t, b, c) = (p.first, p.third, p.fourth, p.fifth);
+    let (s, d, e) = (q.third, q.fourth, q.fifth);
     if p.same(Statement::nested_inclusion(v, 0, t, b, c))
         && q.same(Statement::nested_inclusion(t, c, s, d, e))
     {
@@ -55,18 +37,8 @@ pub fn subsumed_nested(p: Statement, q: Statement) -> Option<Statement>
 pub fn subsumed_possible(p: Statement, q: Statement) -> Option<Statement>
     ensures { λ x. ⌜ x ≡ subsumed-possible p q ⌝ }
 {
-    let Statement {
-        first: v,
-        third: t,
-        fourth: c,
-        fifth: d,
-        ..
-    } = p;
-    let Statement {
-        third: s,
-        fourth: e,
-        ..
-    } = q;
+    let (v, t, c, d) = (p.first, p.third, p.fourth, p.fifth);
+    let (s, e) = (q.third, q.fourth);
     if p.same(Statement::nested_inclusion(v, 0, t, c, d))
         && q.same(Statement::possible_inclusion(t, d, s, e))
     {
@@ -80,14 +52,8 @@ pub fn subsumed_possible(p: Statement, q: Statement) -> Option<Statement>
 pub fn possible_widened(p: Statement, q: Statement) -> Option<Statement>
     ensures { λ x. ⌜ x ≡ possible-widened p q ⌝ }
 {
-    let Statement {
-        first: t,
-        second: c,
-        third: s,
-        fourth: d,
-        ..
-    } = p;
-    let Statement { fifth: e, .. } = q;
+    let (t, c, s, d) = (p.first, p.second, p.third, p.fourth);
+    let e = q.fifth;
     if p.same(Statement::possible_inclusion(t, c, s, d))
         && q.same(Statement::nested_inclusion(t, c, s, d, e))
     {
@@ -101,19 +67,8 @@ pub fn possible_widened(p: Statement, q: Statement) -> Option<Statement>
 pub fn necessary_then_nested(p: Statement, q: Statement) -> Option<Statement>
     ensures { λ x. ⌜ x ≡ necessary-then-nested p q ⌝ }
 {
-    let Statement {
-        first: t,
-        second: c,
-        third: u,
-        fifth: d,
-        ..
-    } = p;
-    let Statement {
-        third: s,
-        fourth: e,
-        fifth: f,
-        ..
-    } = q;
+    let (t, c, u, d) = (p.first, p.second, p.third, p.fifth);
+    let (s, e, f) = (q.third, q.fourth, q.fifth);
     if p.same(Statement::nested_inclusion(t, c, u, 0, d))
         && q.same(Statement::nested_inclusion(u, d, s, e, f))
     {
@@ -127,18 +82,8 @@ pub fn necessary_then_nested(p: Statement, q: Statement) -> Option<Statement>
 pub fn necessary_then_possible(p: Statement, q: Statement) -> Option<Statement>
     ensures { λ x. ⌜ x ≡ necessary-then-possible p q ⌝ }
 {
-    let Statement {
-        first: t,
-        second: c,
-        third: u,
-        fifth: d,
-        ..
-    } = p;
-    let Statement {
-        third: s,
-        fourth: e,
-        ..
-    } = q;
+    let (t, c, u, d) = (p.first, p.second, p.third, p.fifth);
+    let (s, e) = (q.third, q.fourth);
     if p.same(Statement::nested_inclusion(t, c, u, 0, d))
         && q.same(Statement::possible_inclusion(u, d, s, e))
     {
@@ -152,19 +97,8 @@ pub fn necessary_then_possible(p: Statement, q: Statement) -> Option<Statement>
 pub fn possible_then_nested(p: Statement, q: Statement) -> Option<Statement>
     ensures { λ x. ⌜ x ≡ possible-then-nested p q ⌝ }
 {
-    let Statement {
-        first: t,
-        second: c,
-        third: u,
-        fourth: d,
-        ..
-    } = p;
-    let Statement {
-        third: s,
-        fourth: e,
-        fifth: f,
-        ..
-    } = q;
+    let (t, c, u, d) = (p.first, p.second, p.third, p.fourth);
+    let (s, e, f) = (q.third, q.fourth, q.fifth);
     if p.same(Statement::possible_inclusion(t, c, u, d))
         && q.same(Statement::nested_inclusion(u, d, s, e, f))
     {
@@ -178,18 +112,8 @@ pub fn possible_then_nested(p: Statement, q: Statement) -> Option<Statement>
 pub fn possible_then_possible(p: Statement, q: Statement) -> Option<Statement>
     ensures { λ x. ⌜ x ≡ possible-then-possible p q ⌝ }
 {
-    let Statement {
-        first: t,
-        second: c,
-        third: u,
-        fourth: d,
-        ..
-    } = p;
-    let Statement {
-        third: s,
-        fourth: e,
-        ..
-    } = q;
+    let (t, c, u, d) = (p.first, p.second, p.third, p.fourth);
+    let (s, e) = (q.third, q.fourth);
     if p.same(Statement::possible_inclusion(t, c, u, d))
         && q.same(Statement::possible_inclusion(u, d, s, e))
     {
@@ -203,16 +127,9 @@ pub fn possible_then_possible(p: Statement, q: Statement) -> Option<Statement>
 pub fn conjunction_met(p: Statement, q: Statement, r: Statement) -> Option<Statement>
     ensures { λ x. ⌜ x ≡ conjunction-met p q r ⌝ }
 {
-    let Statement {
-        first: t,
-        second: b,
-        third: s,
-        fourth: c,
-        fifth: c1,
-        ..
-    } = p;
-    let Statement { fifth: c2, .. } = q;
-    let Statement { fourth: d, .. } = r;
+    let (t, b, s, c, c1) = (p.first, p.second, p.third, p.fourth, p.fifth);
+    let c2 = q.fifth;
+    let d = r.fourth;
     if p.same(Statement::nested_inclusion(t, b, s, c, c1))
         && q.same(Statement::nested_inclusion(t, b, s, c, c2))
         && r.same(Statement::conjunction_left(s, c1, c2, d))
@@ -227,12 +144,7 @@ pub fn conjunction_met(p: Statement, q: Statement, r: Statement) -> Option<State
 pub fn necessary_here(p: Statement) -> Option<Statement>
     ensures { λ x. ⌜ x ≡ necessary-here p ⌝ }
 {
-    let Statement {
-        first: s,
-        second: c,
-        fifth: d,
-        ..
-    } = p;
+    let (s, c, d) = (p.first, p.second, p.fifth);
     if p.same(Statement::nested_inclusion(s, c, s, 0, d)) {
         Some(Statement::nested_inclusion(0, 0, s, c, d))
     } else {
@@ -244,13 +156,7 @@ pub fn necessary_here(p: Statement) -> Option<Statement>
 pub fn of_all_things(p: Statement) -> Option<Statement>
     ensures { λ x. ⌜ x ≡ of-all-things p ⌝ }
 {
-    let Statement {
-        first: v,
-        third: s,
-        fourth: c,
-        fifth: d,
-        ..
-    } = p;
+    let (v, s, c, d) = (p.first, p.third, p.fourth, p.fifth);
     if p.same(Statement::nested_inclusion(v, 0, s, c, d)) {
         Some(Statement::nested_inclusion(0, 0, s, c, d))
     } else {

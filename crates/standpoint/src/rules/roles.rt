@@ -7,13 +7,8 @@ use crate::statement::Statement;
 pub fn role_transitive(p: Statement, q: Statement) -> Option<Statement>
     ensures { λ x. ⌜ x ≡ role-transitive p q ⌝ }
 {
-    let Statement {
-        first: s,
-        second: r1,
-        third: r2,
-        ..
-    } = p;
-    let Statement { third: r3, .. } = q;
+    let (s, r1, r2) = (p.first, p.second, p.third);
+    let r3 = q.third;
     if p.same(Statement::role_inclusion(s, r1, r2))
         && q.same(Statement::role_inclusion(s, r2, r3))
     {

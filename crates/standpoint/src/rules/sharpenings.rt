@@ -7,12 +7,8 @@ use crate::statement::Statement;
 pub fn sharper_transitive(p: Statement, q: Statement) -> Option<Statement>
     ensures { λ x. ⌜ x ≡ sharper-transitive p q ⌝ }
 {
-    let Statement {
-        first: s,
-        second: t,
-        ..
-    } = p;
-    let Statement { second: u, .. } = q;
+    let (s, t) = (p.first, p.second);
+    let u = q.second;
     if p.same(Statement::sharper(s, t)) && q.same(Statement::sharper(t, u)) {
         Some(Statement::sharper(s, u))
     } else {
@@ -24,13 +20,9 @@ pub fn sharper_transitive(p: Statement, q: Statement) -> Option<Statement>
 pub fn sharper_than_both(p: Statement, q: Statement, r: Statement) -> Option<Statement>
     ensures { λ x. ⌜ x ≡ sharper-than-both p q r ⌝ }
 {
-    let Statement {
-        first: s,
-        second: s1,
-        ..
-    } = p;
-    let Statement { second: s2, .. } = q;
-    let Statement { third: u, .. } = r;
+    let (s, s1) = (p.first, p.second);
+    let s2 = q.second;
+    let u = r.third;
     if p.same(Statement::sharper(s, s1))
         && q.same(Statement::sharper(s, s2))
         && r.same(Statement::intersection_sharper(s1, s2, u))
@@ -45,7 +37,7 @@ pub fn sharper_than_both(p: Statement, q: Statement, r: Statement) -> Option<Sta
 pub fn lowered(x: Statement, q: Statement) -> Option<Statement>
     ensures { λ r. ⌜ r ≡ lowered x q ⌝ }
 {
-    let Statement { first: s, .. } = q;
+    let s = q.first;
     if x.shape >= 3 && x.shape <= 9 && q.same(Statement::sharper(s, x.first)) {
         Some(Statement { first: s, ..x })
     } else {
@@ -57,15 +49,8 @@ pub fn lowered(x: Statement, q: Statement) -> Option<Statement>
 pub fn lowered_inside(p: Statement, q: Statement) -> Option<Statement>
     ensures { λ x. ⌜ x ≡ lowered-inside p q ⌝ }
 {
-    let Statement {
-        first: t,
-        second: c,
-        third: u,
-        fourth: d,
-        fifth: e,
-        ..
-    } = p;
-    let Statement { first: s, .. } = q;
+    let (t, c, u, d, e) = (p.first, p.second, p.third, p.fourth, p.fifth);
+    let s = q.first;
     if p.same(Statement::nested_inclusion(t, c, u, d, e)) && q.same(Statement::sharper(s, u)) {
         Some(Statement::nested_inclusion(t, c, s, d, e))
     } else {
