@@ -2,11 +2,10 @@
 use mathlib.Core.Path.{_≡_, refl, sym, subst, _∙_}
 use mathlib.Core.Bool.{Bool, true, false, cond, _&&_}
 use mathlib.Core.List.{List, [], _∷_}
-use Prim.Native.Nat.{ℕ, _+_, _<_, _≤_}
+use Prim.Native.Nat.{ℕ, _+_}
 use native.Mathlib.Omega.{arith}
 use lib.Dec.{eqb, leb, ltb}
 use borrow.Author.Tests.{eqb-true, leb-true, ltb-true, le-leb, lt-ltb}
-use Rattle.std.proofs.shelf.Ways.{tells}
 use Rattle.std.specs.declared.option.Option.{Option}
 use Rattle.std.specs.declared.option.Option.the-variants.{None, Some}
 use Rattle.standpoint.specs.declared.statement.Statement.{Statement}
@@ -16,26 +15,7 @@ use Rattle.standpoint.specs.Statements.{same, sharper, nested-inclusion, contr
 use Rattle.standpoint.specs.Rules.{Rule, Concluded, listed, in-standpoint}
 use Rattle.standpoint.specs.Rules.Rule.{role-transitive, sharper-transitive, sharper-than-both, lowered, lowered-inside, inside-transitive, subsumed-nested, subsumed-possible, possible-widened, necessary-then-nested, necessary-then-possible, possible-then-nested, possible-then-possible, existential-widened, existential-chained, existential-met, conjunction-met, necessary-here, of-all-things, existential-empty, necessary-empty, possible-empty, individual-empty}
 use Rattle.standpoint.specs.Conclusions.{given, from-one, from-two, from-three, conclusion}
-use Rattle.standpoint.proofs.Orders.{same-numbers}
-
-pub same-true : (x y : Statement) → same x y ≡ true → x ≡ y
-unfolding same
-same-true x y h =
-    let e0 : x .shape ≡ y .shape = grind (arith, tells) in
-    let e1 : x .first ≡ y .first = grind (arith, tells) in
-    let e2 : x .second ≡ y .second = grind (arith, tells) in
-    let e3 : x .third ≡ y .third = grind (arith, tells) in
-    let e4 : x .fourth ≡ y .fourth = grind (arith, tells) in
-    let e5 : x .fifth ≡ y .fifth = grind (arith, tells) in
-    same-numbers x y e0 e1 e2 e3 e4 e5
-
-same-refl : (x : Statement) → same x x ≡ true
-unfolding same
-same-refl x = grind (arith, tells)
-
-and-true : (a b : Bool) → (a && b) ≡ true → (a ≡ true) × (b ≡ true)
-and-true true b h = (refl, h)
-and-true false b h = absurd (grind arith)
+use Rattle.standpoint.proofs.Same.{same-true, same-refl, and-true}
 
 none-some : {y : Statement} → None ≡ Some y → ⊥
 none-some h = let z : _≡_ {A = ℕ} 0 1 = cc in omega arith

@@ -9,3 +9,4 @@ pub mod Structures
 pub mod Derivations
 pub mod Steps
 pub mod Conclusions
+pub mod Tautologies

@@ -19,6 +19,9 @@ pub use statement::Sort;
 pub use statement::Sorts;
 pub use statement::Statement;
 pub use step::Step;
+pub use tautologies::is_tautology;
+pub use tautologies::tautology;
+pub use tautologies::tautology_count;
 
 mod fits;
 mod kinds;
@@ -28,3 +31,4 @@ mod rules;
 mod sizes;
 mod statement;
 mod step;
+mod tautologies;

@@ -1,0 +1,32 @@
+-- What tests say: that two statements are the same, and tests put together.
+use mathlib.Core.Path.{_≡_, refl}
+use mathlib.Core.Bool.{Bool, true, false, _&&_, _||_}
+use mathlib.Core.Logic.{_⊎_, inl, inr}
+use native.Mathlib.Omega.{arith}
+use Rattle.std.proofs.shelf.Ways.{tells}
+use Rattle.standpoint.specs.declared.statement.Statement.{Statement}
+use Rattle.standpoint.specs.Statements.{same}
+use Rattle.standpoint.proofs.Orders.{same-numbers}
+
+pub same-true : (x y : Statement) → same x y ≡ true → x ≡ y
+unfolding same
+same-true x y h =
+    let e0 : x .shape ≡ y .shape = grind (arith, tells) in
+    let e1 : x .first ≡ y .first = grind (arith, tells) in
+    let e2 : x .second ≡ y .second = grind (arith, tells) in
+    let e3 : x .third ≡ y .third = grind (arith, tells) in
+    let e4 : x .fourth ≡ y .fourth = grind (arith, tells) in
+    let e5 : x .fifth ≡ y .fifth = grind (arith, tells) in
+    same-numbers x y e0 e1 e2 e3 e4 e5
+
+pub same-refl : (x : Statement) → same x x ≡ true
+unfolding same
+same-refl x = grind (arith, tells)
+
+pub and-true : (a b : Bool) → (a && b) ≡ true → (a ≡ true) × (b ≡ true)
+and-true true b h = (refl, h)
+and-true false b h = absurd (grind arith)
+
+pub or-true : (a b : Bool) → (a || b) ≡ true → (a ≡ true) ⊎ (b ≡ true)
+or-true true b h = inl refl
+or-true false b h = inr h
