@@ -1,0 +1,4 @@
+mod Offers
+mod Lists
+mod Choosing
+mod Stepping
