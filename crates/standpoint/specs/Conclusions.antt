@@ -175,3 +175,21 @@ abbrev pub conclusion : ℕ → ℕ → Premises → Option Statement
 conclusion individuals rule (One p) = from-one individuals rule p
 conclusion individuals rule (Two p q) = from-two rule p q
 conclusion individuals rule (Three p q r) = from-three rule p q r
+
+-- whether some third premise goes with p and q, by the rules of three premises: q is the second
+abbrev pub goes-second : ℕ → Statement → Statement → Bool
+goes-second rule p q =
+    cond (eqb rule 3) (same p (sharper (p .first) (p .second)) && same q (sharper (p .first) (q .second)))
+    (cond (eqb rule 14) (same p (existential-right (p .first) (p .second) (p .third) (p .fourth)) && same q (nested-inclusion (q .first) 0 (p .first) (p .fourth) (q .fifth)))
+    (cond (eqb rule 15) (same p (existential-right (p .first) (p .second) (p .third) (p .fourth)) && same q (existential-right (p .first) (p .fourth) (q .third) (q .fourth)))
+    (cond (eqb rule 17) (same p (nested-inclusion (p .first) (p .second) (p .third) (p .fourth) (p .fifth)) && same q (nested-inclusion (p .first) (p .second) (p .third) (p .fourth) (q .fifth)))
+    false)))
+
+-- the same where q is the third
+abbrev pub goes-third : ℕ → Statement → Statement → Bool
+goes-third rule p q =
+    cond (eqb rule 3) (same p (sharper (p .first) (p .second)) && same q (intersection-sharper (p .second) (q .second) (q .third)))
+    (cond (eqb rule 14) (same p (existential-right (p .first) (p .second) (p .third) (p .fourth)) && same q (role-inclusion (p .first) (p .third) (q .third)))
+    (cond (eqb rule 15) (same p (existential-right (p .first) (p .second) (p .third) (p .fourth)) && same q (role-chain (p .first) (p .third) (q .third) (q .fourth)))
+    (cond (eqb rule 17) (same p (nested-inclusion (p .first) (p .second) (p .third) (p .fourth) (p .fifth)) && same q (conjunction-left (p .third) (p .fifth) (q .third) (q .fourth)))
+    false)))

@@ -2,13 +2,18 @@
 use mathlib.Core.Path.{_≡_}
 use mathlib.Core.List.{List, [], _∷_}
 use Prim.Native.Nat.{ℕ, _<_, _≤_}
+use lib.ListN.{getD}
 use Rattle.standpoint.specs.declared.statement.Statement.{Statement}
 use Rattle.std.specs.declared.option.Option.{Option}
 use Rattle.std.specs.declared.option.Option.the-variants.{None, Some}
 use Rattle.standpoint.specs.declared.sizes.Sizes.{Sizes}
 use Rattle.standpoint.specs.declared.premises.Premises.{Premises}
 use Rattle.standpoint.specs.declared.premises.Premises.the-variants.{One, Two, Three}
-use Rattle.standpoint.specs.Statements.{Individual, statement, sharper, intersection-sharper, nested-inclusion, possible-inclusion, existential-right, existential-left, conjunction-left, role-inclusion, role-chain, contradiction}
+use Rattle.standpoint.specs.declared.premises.Beside.{Beside}
+use Rattle.standpoint.specs.declared.premises.Beside.the-variants.{Second, Third}
+use Rattle.standpoint.specs.Lists.{All}
+use Rattle.standpoint.specs.Sizes.{In-range}
+use Rattle.standpoint.specs.Statements.{Fits, Individual, statement, sharper, intersection-sharper, nested-inclusion, possible-inclusion, existential-right, existential-left, conjunction-left, role-inclusion, role-chain, contradiction}
 
 -- what holds whatever is accepted
 pub data Tautology (n : Sizes) : Statement → Type 0 where
@@ -81,3 +86,21 @@ listed (Three p q r) = p ∷ q ∷ r ∷ []
 abbrev pub Concluded : ℕ → ℕ → List Statement → Option Statement → Type 0
 Concluded individuals rule premises None = (x : Statement) → Rule individuals rule premises x → ⊥
 Concluded individuals rule premises (Some x) = Rule individuals rule premises x × ((y : Statement) → Rule individuals rule premises y → y ≡ x)
+
+-- how many premises each rule has, by its number; there is none of number 0
+abbrev pub arities : List ℕ
+arities = 0 ∷ 2 ∷ 2 ∷ 3 ∷ 2 ∷ 2 ∷ 2 ∷ 2 ∷ 2 ∷ 2 ∷ 2 ∷ 2 ∷ 2 ∷ 2 ∷ 3 ∷ 3 ∷ 2 ∷ 3 ∷ 1 ∷ 1 ∷ 1 ∷ 1 ∷ 1 ∷ 1 ∷ []
+
+-- the same, and 0 if there is no such rule
+abbrev pub arity-of : ℕ → ℕ
+arity-of rule = getD arities rule 0
+
+-- a conclusion fits all sizes that its premises fit
+abbrev pub Fits-as : ℕ → List Statement → Option Statement → Type 0
+Fits-as individuals premises None = Unit {0}
+Fits-as individuals premises (Some x) = (n : Sizes) → n .individuals ≡ individuals → In-range n → All (Fits n) premises → Fits n x
+
+-- p as first premise and q at its place have a conclusion with some other premise
+abbrev pub Goes-with : ℕ → ℕ → Statement → Beside → Statement → Type 0
+Goes-with individuals rule p Second q = (r x : Statement) × Rule individuals rule (p ∷ q ∷ r ∷ []) x
+Goes-with individuals rule p Third q = (r x : Statement) × Rule individuals rule (p ∷ r ∷ q ∷ []) x
