@@ -22,26 +22,26 @@ fn goes_second(rule: u8, p: Statement, q: Statement) -> bool
 {
     match rule {
         3 => {
-            p.same(Statement::sharper(p.first, p.second))
-                && q.same(Statement::sharper(p.first, q.second))
+            let (s, s1, s2) = (p.first, p.second, q.second);
+            p.same(Statement::sharper(s, s1)) && q.same(Statement::sharper(s, s2))
         }
         14 => {
-            p.same(Statement::existential_right(p.first, p.second, p.third, p.fourth))
-                && q.same(Statement::nested_inclusion(q.first, 0, p.first, p.fourth, q.fifth))
+            let (s, c, r1, d) = (p.first, p.second, p.third, p.fourth);
+            let (v, e) = (q.first, q.fifth);
+            p.same(Statement::existential_right(s, c, r1, d))
+                && q.same(Statement::nested_inclusion(v, 0, s, d, e))
         }
         15 => {
-            p.same(Statement::existential_right(p.first, p.second, p.third, p.fourth))
-                && q.same(Statement::existential_right(p.first, p.fourth, q.third, q.fourth))
+            let (s, c, r1, d) = (p.first, p.second, p.third, p.fourth);
+            let (r2, e) = (q.third, q.fourth);
+            p.same(Statement::existential_right(s, c, r1, d))
+                && q.same(Statement::existential_right(s, d, r2, e))
         }
         17 => {
-            p.same(Statement::nested_inclusion(p.first, p.second, p.third, p.fourth, p.fifth))
-                && q.same(Statement::nested_inclusion(
-                    p.first,
-                    p.second,
-                    p.third,
-                    p.fourth,
-                    q.fifth,
-                ))
+            let (t, b, s, c, c1) = (p.first, p.second, p.third, p.fourth, p.fifth);
+            let c2 = q.fifth;
+            p.same(Statement::nested_inclusion(t, b, s, c, c1))
+                && q.same(Statement::nested_inclusion(t, b, s, c, c2))
         }
         _ => false,
     }
@@ -52,20 +52,26 @@ fn goes_third(rule: u8, p: Statement, q: Statement) -> bool
 {
     match rule {
         3 => {
-            p.same(Statement::sharper(p.first, p.second))
-                && q.same(Statement::intersection_sharper(p.second, q.second, q.third))
+            let (s, s1, s2, u) = (p.first, p.second, q.second, q.third);
+            p.same(Statement::sharper(s, s1)) && q.same(Statement::intersection_sharper(s1, s2, u))
         }
         14 => {
-            p.same(Statement::existential_right(p.first, p.second, p.third, p.fourth))
-                && q.same(Statement::role_inclusion(p.first, p.third, q.third))
+            let (s, c, r1, d) = (p.first, p.second, p.third, p.fourth);
+            let r2 = q.third;
+            p.same(Statement::existential_right(s, c, r1, d))
+                && q.same(Statement::role_inclusion(s, r1, r2))
         }
         15 => {
-            p.same(Statement::existential_right(p.first, p.second, p.third, p.fourth))
-                && q.same(Statement::role_chain(p.first, p.third, q.third, q.fourth))
+            let (s, c, r1, d) = (p.first, p.second, p.third, p.fourth);
+            let (r2, r3) = (q.third, q.fourth);
+            p.same(Statement::existential_right(s, c, r1, d))
+                && q.same(Statement::role_chain(s, r1, r2, r3))
         }
         17 => {
-            p.same(Statement::nested_inclusion(p.first, p.second, p.third, p.fourth, p.fifth))
-                && q.same(Statement::conjunction_left(p.third, p.fifth, q.third, q.fourth))
+            let (t, b, s, c, c1) = (p.first, p.second, p.third, p.fourth, p.fifth);
+            let (c2, d) = (q.third, q.fourth);
+            p.same(Statement::nested_inclusion(t, b, s, c, c1))
+                && q.same(Statement::conjunction_left(s, c1, c2, d))
         }
         _ => false,
     }
