@@ -1,13 +1,13 @@
 -- Each rule has as many premises as its arity says.
-use mathlib.Core.Path.{_≡_, refl}
+use mathlib.Core.Path.{_≡_, refl, sym, _∙_}
 use mathlib.Core.List.{List}
 use Prim.Native.Nat.{ℕ}
 use lib.ListN.{length}
 use Rattle.standpoint.specs.declared.statement.Statement.{Statement}
-use Rattle.standpoint.specs.Rules.{Rule, arity-of}
+use Rattle.standpoint.specs.Rules.{Rule, arity-of, Has-arity}
 use Rattle.standpoint.specs.Rules.Rule.{role-transitive, sharper-transitive, sharper-than-both, lowered, lowered-inside, inside-transitive, subsumed-nested, subsumed-possible, possible-widened, necessary-then-nested, necessary-then-possible, possible-then-nested, possible-then-possible, existential-widened, existential-chained, existential-met, conjunction-met, necessary-here, of-all-things, existential-empty, necessary-empty, possible-empty, individual-empty}
 
-pub arity-counts : {i rule : ℕ} {premises : List Statement} {x : Statement} → Rule i rule premises x → length premises ≡ arity-of rule
+arity-counts : {i rule : ℕ} {premises : List Statement} {x : Statement} → Rule i rule premises x → length premises ≡ arity-of rule
 arity-counts role-transitive = refl
 arity-counts sharper-transitive = refl
 arity-counts sharper-than-both = refl
@@ -31,3 +31,6 @@ arity-counts existential-empty = refl
 arity-counts necessary-empty = refl
 arity-counts possible-empty = refl
 arity-counts (individual-empty a) = refl
+
+pub has-arity : (rule count : ℕ) → count ≡ arity-of rule → Has-arity rule count
+has-arity rule count e = record { value = e; premises = λ i premises x h. arity-counts h ∙ sym e }

@@ -1,8 +1,10 @@
 -- The tautologies and the 23 rules of the calculus.
 use mathlib.Core.Path.{_≡_}
+use mathlib.Core.Bool.{cond, _||_}
 use mathlib.Core.List.{List, [], _∷_}
 use Prim.Native.Nat.{ℕ, _<_, _≤_}
-use lib.ListN.{getD}
+use lib.Dec.{eqb, leb}
+use lib.ListN.{length}
 use Rattle.standpoint.specs.declared.statement.Statement.{Statement}
 use Rattle.std.specs.declared.option.Option.{Option}
 use Rattle.std.specs.declared.option.Option.the-variants.{None, Some}
@@ -87,13 +89,19 @@ abbrev pub Concluded : ℕ → ℕ → List Statement → Option Statement → T
 Concluded individuals rule premises None = (x : Statement) → Rule individuals rule premises x → ⊥
 Concluded individuals rule premises (Some x) = Rule individuals rule premises x × ((y : Statement) → Rule individuals rule premises y → y ≡ x)
 
--- how many premises each rule has, by its number; there is none of number 0
-abbrev pub arities : List ℕ
-arities = 0 ∷ 2 ∷ 2 ∷ 3 ∷ 2 ∷ 2 ∷ 2 ∷ 2 ∷ 2 ∷ 2 ∷ 2 ∷ 2 ∷ 2 ∷ 2 ∷ 3 ∷ 3 ∷ 2 ∷ 3 ∷ 1 ∷ 1 ∷ 1 ∷ 1 ∷ 1 ∷ 1 ∷ []
-
--- the same, and 0 if there is no such rule
+-- how many premises the rule of a number has, 0 if there is no such rule
 abbrev pub arity-of : ℕ → ℕ
-arity-of rule = getD arities rule 0
+arity-of rule =
+    cond (eqb rule 0) 0
+    (cond (eqb rule 3 || (eqb rule 14 || (eqb rule 15 || eqb rule 17))) 3
+    (cond (leb rule 17) 2
+    (cond (leb rule 23) 1
+    0)))
+
+-- whatever the rule gives has so many premises
+pub record Has-arity (rule count : ℕ) : Type 0 where
+  pub value : count ≡ arity-of rule
+  pub premises : (individuals : ℕ) (premises : List Statement) (x : Statement) → Rule individuals rule premises x → length premises ≡ count
 
 -- a conclusion fits all sizes that its premises fit
 abbrev pub Fits-as : ℕ → List Statement → Option Statement → Type 0

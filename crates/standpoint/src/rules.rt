@@ -1,10 +1,7 @@
 // The rules of the calculus.
-ghost use mathlib.Core.List.{List};
 ghost use mathlib.Core.Path.{_≡_};
-ghost use Prim.Native.Nat.{ℕ};
-ghost use lib.ListN.{length};
 ghost use Rattle.standpoint.specs.Conclusions.{from-one, from-two, from-three};
-ghost use Rattle.standpoint.specs.Rules.{Concluded, Fits-as, Rule, arity-of, listed};
+ghost use Rattle.standpoint.specs.Rules.{Concluded, Fits-as, Has-arity, listed};
 use crate::premises::Premises;
 use crate::statement::Statement;
 pub use pairs::may_meet;
@@ -15,34 +12,6 @@ mod inclusions;
 mod pairs;
 mod roles;
 mod sharpenings;
-
-// How many premises each rule has, by its number.
-const ARITIES: [u8; 24] = [
-    0,
-    2,
-    2,
-    3,
-    2,
-    2,
-    2,
-    2,
-    2,
-    2,
-    2,
-    2,
-    2,
-    2,
-    3,
-    3,
-    2,
-    3,
-    1,
-    1,
-    1,
-    1,
-    1,
-    1,
-];
 
 // The conclusion of a rule from its premises, or none.
 pub fn conclude(individuals: u16, rule: u8, premises: Premises) -> Option<Statement>
@@ -58,13 +27,13 @@ pub fn conclude(individuals: u16, rule: u8, premises: Premises) -> Option<Statem
 
 // How many premises a rule has, 0 if there is no such rule.
 pub fn arity(rule: u8) -> u8
-    ensures value { λ r. ⌜ r ≡ arity-of rule ⌝ }
-    ensures premises { λ r. ⌜ ((individuals : ℕ) (premises : List Statement) (x : Statement) → Rule individuals rule premises x → length premises ≡ r) ⌝ }
+    ensures { λ r. ⌜ Has-arity rule r ⌝ }
 {
-    if rule < 24 {
-        ARITIES[usize::from(rule)]
-    } else {
-        0
+    match rule {
+        3 | 14 | 15 | 17 => 3,
+        1..=17 => 2,
+        18..=23 => 1,
+        _ => 0,
     }
 }
 

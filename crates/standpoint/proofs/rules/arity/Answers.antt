@@ -1,15 +1,24 @@
-use mathlib.Core.Path.{ap, sym, _∙_}
-use Rattle.std.proofs.shelf.Lists.{getD-past}
-use Rattle.standpoint.specs.Rules.{arities, arity-of}
-use Rattle.standpoint.proofs.Arities.{arity-counts}
+use borrow.Author.Needs.{needs}
+use Rattle.standpoint.proofs.Arities.{has-arity}
 use Rattle.standpoint.proofs.rules.arity.Needs as need
 
-pub returns-then-rule-lt24 : need.returns-then-rule-lt24
-returns-then-rule-lt24 c =
-    let value = ap arity-of (c .from .ensures) in
-    record { value = value; premises = λ i ps x h. arity-counts h ∙ sym value }
+pub returns-in-3 : need.returns-in-3
+returns-in-3 c = has-arity (c .args .rule) _ (search needs)
 
-pub returns-else-rule-lt24 : need.returns-else-rule-lt24
-returns-else-rule-lt24 c =
-    let value = sym (getD-past arities (c .args .rule) 0 (c .if-rule-lt24 .left)) in
-    record { value = value; premises = λ i ps x h. arity-counts h ∙ sym value }
+pub returns-in-3·2 : need.returns-in-3·2
+returns-in-3·2 c = has-arity (c .args .rule) _ (search needs)
+
+pub returns-in-1-to-17 : need.returns-in-1-to-17
+returns-in-1-to-17 c = has-arity (c .args .rule) _ (search needs)
+
+pub returns-in-1-to-17·2 : need.returns-in-1-to-17·2
+returns-in-1-to-17·2 c = has-arity (c .args .rule) _ (search needs)
+
+pub returns-in-18-to-23 : need.returns-in-18-to-23
+returns-in-18-to-23 c = has-arity (c .args .rule) _ (search needs)
+
+pub returns-in-rest : need.returns-in-rest
+returns-in-rest c = has-arity (c .args .rule) _ (search needs)
+
+pub returns-in-rest·2 : need.returns-in-rest·2
+returns-in-rest·2 c = has-arity (c .args .rule) _ (search needs)
