@@ -5,7 +5,7 @@ use mathlib.Core.List.{List, [], _∷_}
 use Prim.Native.Nat.{ℕ, _+_}
 use native.Mathlib.Omega.{arith}
 use lib.Dec.{eqb, leb, ltb}
-use borrow.Author.Tests.{eqb-true, leb-true, ltb-true, le-leb, lt-ltb}
+use borrow.Author.Tests.{leb-true, ltb-true, le-leb, lt-ltb}
 use Rattle.std.specs.declared.option.Option.{Option}
 use Rattle.std.specs.declared.option.Option.the-variants.{None, Some}
 use Rattle.standpoint.specs.declared.statement.Statement.{Statement}
@@ -15,7 +15,7 @@ use Rattle.standpoint.specs.Statements.{same, sharper, nested-inclusion, contr
 use Rattle.standpoint.specs.Rules.{Rule, Concluded, listed, in-standpoint}
 use Rattle.standpoint.specs.Rules.Rule.{role-transitive, sharper-transitive, sharper-than-both, lowered, lowered-inside, inside-transitive, subsumed-nested, subsumed-possible, possible-widened, necessary-then-nested, necessary-then-possible, possible-then-nested, possible-then-possible, existential-widened, existential-chained, existential-met, conjunction-met, necessary-here, of-all-things, existential-empty, necessary-empty, possible-empty, individual-empty}
 use Rattle.standpoint.specs.Conclusions.{given, from-one, from-two, from-three, conclusion}
-use Rattle.standpoint.proofs.Same.{same-true, same-refl, and-true}
+use Rattle.standpoint.proofs.Testing.{same-true, same-refl, and-true, at-number}
 
 none-some : {y : Statement} → None ≡ Some y → ⊥
 none-some h = let z : _≡_ {A = ℕ} 0 1 = cc in omega arith
@@ -60,11 +60,7 @@ individual-tested p a y k h rule =
 -- one rule after the other
 at-rule : {i : ℕ} {premises : List Statement} (rule n : ℕ) (here rest : Option Statement) (y : Statement) → cond (eqb rule n) here rest ≡ Some y →
     (here ≡ Some y → Rule i n premises y) → (rest ≡ Some y → Rule i rule premises y) → Rule i rule premises y
-at-rule {i} {premises} rule n here rest y h first others = go (eqb rule n) (eqb-true rule n) h
-  where
-    go : (b : Bool) → (b ≡ true → rule ≡ n) → cond b here rest ≡ Some y → Rule i rule premises y
-    go true e k = subst (λ m. Rule i m premises y) (sym (e refl)) (first k)
-    go false e k = others k
+at-rule {i} {premises} rule n here rest y = at-number (λ m. Rule i m premises y) rule n here rest (Some y)
 
 one-sound : {i : ℕ} (rule : ℕ) (p y : Statement) → from-one i rule p ≡ Some y → Rule i rule (p ∷ []) y
 one-sound rule p y k =

@@ -23,7 +23,7 @@ use Rattle.standpoint.specs.Statements.{sharper, nested-inclusion, role-inclus
 use Rattle.standpoint.specs.Rules.{Tautology}
 use Rattle.standpoint.specs.Rules.Tautology.{sharper-than-all, sharper-than-itself, within-itself, within-top, role-within-itself}
 use Rattle.standpoint.specs.Tautologies.{tautologies, Lists-tautologies, on-standpoints, on-concepts, on-roles}
-use Rattle.standpoint.proofs.Same.{same-true, same-refl, and-true, or-true}
+use Rattle.standpoint.proofs.Testing.{same-true, same-refl, and-true, or-true}
 use Rattle.standpoint.proofs.Listing.{in-left, in-right, in-either, in-stretch, of-stretch, nth-part, nth-stretch, Placed, placed-part, placed-stretch, placed-distinct}
 
 module _ (n : Sizes) where

@@ -1,4 +1,4 @@
--- The rules as functions of their premises: what each gives, or none.
+-- The rules as functions of their premises: what each gives, or none. They are those of Rule, put so that they can be computed.
 use mathlib.Core.Bool.{Bool, true, false, cond, _&&_}
 use Prim.Native.Nat.{ℕ, _+_}
 use lib.Dec.{eqb, leb, ltb}
@@ -16,7 +16,7 @@ given true x = Some x
 given false x = None
 
 -- the numbers of a statement, by names
-abbrev pub numbers : Statement → (ℕ → ℕ → ℕ → ℕ → ℕ → Option Statement) → Option Statement
+abbrev pub numbers : {X : Type 0} → Statement → (ℕ → ℕ → ℕ → ℕ → ℕ → X) → X
 numbers x f = f (x .first) (x .second) (x .third) (x .fourth) (x .fifth)
 
 -- Each rule asks whether its premises are what it wants, with their own numbers.
@@ -175,3 +175,23 @@ abbrev pub conclusion : ℕ → ℕ → Premises → Option Statement
 conclusion individuals rule (One p) = from-one individuals rule p
 conclusion individuals rule (Two p q) = from-two rule p q
 conclusion individuals rule (Three p q r) = from-three rule p q r
+
+-- whether some third premise goes with the first, p, and the second, q
+abbrev pub goes-second : ℕ → Statement → Statement → Bool
+goes-second rule p q =
+    numbers p (λ a b c d e. numbers q (λ f g h i j.
+    cond (eqb rule 3) (same p (sharper a b) && same q (sharper a g))
+    (cond (eqb rule 14) (same p (existential-right a b c d) && same q (nested-inclusion f 0 a d j))
+    (cond (eqb rule 15) (same p (existential-right a b c d) && same q (existential-right a d h i))
+    (cond (eqb rule 17) (same p (nested-inclusion a b c d e) && same q (nested-inclusion a b c d j))
+    false)))))
+
+-- whether some second premise goes with the first, p, and the third, q
+abbrev pub goes-third : ℕ → Statement → Statement → Bool
+goes-third rule p q =
+    numbers p (λ a b c d e. numbers q (λ f g h i j.
+    cond (eqb rule 3) (same p (sharper a b) && same q (intersection-sharper b g h))
+    (cond (eqb rule 14) (same p (existential-right a b c d) && same q (role-inclusion a c h))
+    (cond (eqb rule 15) (same p (existential-right a b c d) && same q (role-chain a c h i))
+    (cond (eqb rule 17) (same p (nested-inclusion a b c d e) && same q (conjunction-left c e h i))
+    false)))))

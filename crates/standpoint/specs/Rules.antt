@@ -1,14 +1,21 @@
 -- The tautologies and the 23 rules of the calculus.
 use mathlib.Core.Path.{_≡_}
+use mathlib.Core.Bool.{cond, _||_}
 use mathlib.Core.List.{List, [], _∷_}
 use Prim.Native.Nat.{ℕ, _<_, _≤_}
+use lib.Dec.{eqb, leb}
+use lib.ListN.{length}
 use Rattle.standpoint.specs.declared.statement.Statement.{Statement}
 use Rattle.std.specs.declared.option.Option.{Option}
 use Rattle.std.specs.declared.option.Option.the-variants.{None, Some}
 use Rattle.standpoint.specs.declared.sizes.Sizes.{Sizes}
 use Rattle.standpoint.specs.declared.premises.Premises.{Premises}
 use Rattle.standpoint.specs.declared.premises.Premises.the-variants.{One, Two, Three}
-use Rattle.standpoint.specs.Statements.{Individual, statement, sharper, intersection-sharper, nested-inclusion, possible-inclusion, existential-right, existential-left, conjunction-left, role-inclusion, role-chain, contradiction}
+use Rattle.standpoint.specs.declared.premises.Beside.{Beside}
+use Rattle.standpoint.specs.declared.premises.Beside.the-variants.{Second, Third}
+use Rattle.standpoint.specs.Lists.{All}
+use Rattle.standpoint.specs.Sizes.{In-range}
+use Rattle.standpoint.specs.Statements.{Fits, Individual, statement, sharper, intersection-sharper, nested-inclusion, possible-inclusion, existential-right, existential-left, conjunction-left, role-inclusion, role-chain, contradiction}
 
 -- what holds whatever is accepted
 pub data Tautology (n : Sizes) : Statement → Type 0 where
@@ -81,3 +88,27 @@ listed (Three p q r) = p ∷ q ∷ r ∷ []
 abbrev pub Concluded : ℕ → ℕ → List Statement → Option Statement → Type 0
 Concluded individuals rule premises None = (x : Statement) → Rule individuals rule premises x → ⊥
 Concluded individuals rule premises (Some x) = Rule individuals rule premises x × ((y : Statement) → Rule individuals rule premises y → y ≡ x)
+
+-- how many premises the rule of a number has, 0 if there is no such rule
+abbrev pub arity-of : ℕ → ℕ
+arity-of rule =
+    cond (eqb rule 0) 0
+    (cond (eqb rule 3 || (eqb rule 14 || (eqb rule 15 || eqb rule 17))) 3
+    (cond (leb rule 17) 2
+    (cond (leb rule 23) 1
+    0)))
+
+-- whatever the rule gives has so many premises
+pub record Has-arity (rule count : ℕ) : Type 0 where
+  pub value : count ≡ arity-of rule
+  pub premises : (individuals : ℕ) (premises : List Statement) (x : Statement) → Rule individuals rule premises x → length premises ≡ count
+
+-- a conclusion fits all sizes that its premises fit
+abbrev pub Fits-as : ℕ → List Statement → Option Statement → Type 0
+Fits-as individuals premises None = Unit {0}
+Fits-as individuals premises (Some x) = (n : Sizes) → n .individuals ≡ individuals → In-range n → All (Fits n) premises → Fits n x
+
+-- p as first premise and q at its place have a conclusion with some other premise
+abbrev pub Goes-with : ℕ → ℕ → Statement → Beside → Statement → Type 0
+Goes-with individuals rule p Second q = (r x : Statement) × Rule individuals rule (p ∷ q ∷ r ∷ []) x
+Goes-with individuals rule p Third q = (r x : Statement) × Rule individuals rule (p ∷ r ∷ q ∷ []) x

@@ -1,24 +1,39 @@
 // The rules of the calculus.
 ghost use mathlib.Core.Path.{_≡_};
 ghost use Rattle.standpoint.specs.Conclusions.{from-one, from-two, from-three};
-ghost use Rattle.standpoint.specs.Rules.{Concluded, listed};
+ghost use Rattle.standpoint.specs.Rules.{Concluded, Fits-as, Has-arity, listed};
 use crate::premises::Premises;
 use crate::statement::Statement;
+pub use pairs::may_meet;
 
 mod bottom;
 mod existentials;
 mod inclusions;
+mod pairs;
 mod roles;
 mod sharpenings;
 
 // The conclusion of a rule from its premises, or none.
 pub fn conclude(individuals: u16, rule: u8, premises: Premises) -> Option<Statement>
-    ensures { λ r. ⌜ Concluded individuals rule (listed premises) r ⌝ }
+    ensures conclusion { λ r. ⌜ Concluded individuals rule (listed premises) r ⌝ }
+    ensures fits { λ r. ⌜ Fits-as individuals (listed premises) r ⌝ }
 {
     match premises {
         Premises::One(p) => from_one(individuals, rule, p),
         Premises::Two(p, q) => from_two(rule, p, q),
         Premises::Three(p, q, r) => from_three(rule, p, q, r),
+    }
+}
+
+// How many premises a rule has, 0 if there is no such rule.
+pub fn arity(rule: u8) -> u8
+    ensures { λ r. ⌜ Has-arity rule r ⌝ }
+{
+    match rule {
+        3 | 14 | 15 | 17 => 3,
+        1..=17 => 2,
+        18..=23 => 1,
+        _ => 0,
     }
 }
 

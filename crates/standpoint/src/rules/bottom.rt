@@ -3,7 +3,7 @@ ghost use mathlib.Core.Path.{_≡_};
 ghost use Rattle.standpoint.specs.Conclusions.{existential-empty, necessary-empty, possible-empty, individual-empty};
 use crate::statement::Statement;
 
-// 20: Nothing has a role to nothing.
+// Rule 20: Nothing has a role to nothing.
 pub fn existential_empty(p: Statement) -> Option<Statement>
     ensures { λ x. ⌜ x ≡ existential-empty p ⌝ }
 {
@@ -15,7 +15,7 @@ pub fn existential_empty(p: Statement) -> Option<Statement>
     }
 }
 
-// 21: What is nowhere is nothing.
+// Rule 21: What is nothing throughout a standpoint is nothing.
 pub fn necessary_empty(p: Statement) -> Option<Statement>
     ensures { λ x. ⌜ x ≡ necessary-empty p ⌝ }
 {
@@ -27,7 +27,7 @@ pub fn necessary_empty(p: Statement) -> Option<Statement>
     }
 }
 
-// 22: What is somewhere nothing is nothing.
+// Rule 22: What is nothing somewhere is nothing.
 pub fn possible_empty(p: Statement) -> Option<Statement>
     ensures { λ x. ⌜ x ≡ possible-empty p ⌝ }
 {
@@ -39,7 +39,7 @@ pub fn possible_empty(p: Statement) -> Option<Statement>
     }
 }
 
-// 23: An individual is something.
+// Rule 23: An individual is never nothing.
 pub fn individual_empty(individuals: u16, p: Statement) -> Option<Statement>
     ensures { λ x. ⌜ x ≡ individual-empty individuals p ⌝ }
 {

@@ -3,7 +3,7 @@ ghost use mathlib.Core.Path.{_≡_};
 ghost use Rattle.standpoint.specs.Conclusions.{existential-widened, existential-chained, existential-met};
 use crate::statement::Statement;
 
-// 14: An r1 to some d is an r2 to some e.
+// Rule 14: An r1 to some d is an r2 to some e.
 pub fn existential_widened(p: Statement, q: Statement, r: Statement) -> Option<Statement>
     ensures { λ x. ⌜ x ≡ existential-widened p q r ⌝ }
 {
@@ -20,7 +20,7 @@ pub fn existential_widened(p: Statement, q: Statement, r: Statement) -> Option<S
     }
 }
 
-// 15: An r1 followed by an r2 is an r3.
+// Rule 15: An r1 followed by an r2 is an r3.
 pub fn existential_chained(p: Statement, q: Statement, r: Statement) -> Option<Statement>
     ensures { λ x. ⌜ x ≡ existential-chained p q r ⌝ }
 {
@@ -37,7 +37,7 @@ pub fn existential_chained(p: Statement, q: Statement, r: Statement) -> Option<S
     }
 }
 
-// 16: What has an r to some d is f.
+// Rule 16: What has an r to some d is f.
 pub fn existential_met(p: Statement, q: Statement) -> Option<Statement>
     ensures { λ x. ⌜ x ≡ existential-met p q ⌝ }
 {

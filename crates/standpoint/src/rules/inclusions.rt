@@ -3,7 +3,7 @@ ghost use mathlib.Core.Path.{_≡_};
 ghost use Rattle.standpoint.specs.Conclusions.{inside-transitive, subsumed-nested, subsumed-possible, possible-widened, necessary-then-nested, necessary-then-possible, possible-then-nested, possible-then-possible, conjunction-met, necessary-here, of-all-things};
 use crate::statement::Statement;
 
-// 6: c is d, and d is e.
+// Rule 6: Inside, each c is d, and each d is e.
 pub fn inside_transitive(p: Statement, q: Statement) -> Option<Statement>
     ensures { λ x. ⌜ x ≡ inside-transitive p q ⌝ }
 {
@@ -18,7 +18,7 @@ pub fn inside_transitive(p: Statement, q: Statement) -> Option<Statement>
     }
 }
 
-// 7: b is c throughout t.
+// Rule 7: Each b of t is c, and so has what each c has.
 pub fn subsumed_nested(p: Statement, q: Statement) -> Option<Statement>
     ensures { λ x. ⌜ x ≡ subsumed-nested p q ⌝ }
 {
@@ -33,7 +33,7 @@ pub fn subsumed_nested(p: Statement, q: Statement) -> Option<Statement>
     }
 }
 
-// 8: c is d throughout t.
+// Rule 8: Each c of t is d, and so is somewhere what each d is somewhere.
 pub fn subsumed_possible(p: Statement, q: Statement) -> Option<Statement>
     ensures { λ x. ⌜ x ≡ subsumed-possible p q ⌝ }
 {
@@ -48,7 +48,7 @@ pub fn subsumed_possible(p: Statement, q: Statement) -> Option<Statement>
     }
 }
 
-// 9: Somewhere d, where d is e.
+// Rule 9: What is d somewhere in s is e there.
 pub fn possible_widened(p: Statement, q: Statement) -> Option<Statement>
     ensures { λ x. ⌜ x ≡ possible-widened p q ⌝ }
 {
@@ -63,7 +63,7 @@ pub fn possible_widened(p: Statement, q: Statement) -> Option<Statement>
     }
 }
 
-// 10: Throughout u d, and there each d is nested.
+// Rule 10: What is d throughout u has what each d of u has.
 pub fn necessary_then_nested(p: Statement, q: Statement) -> Option<Statement>
     ensures { λ x. ⌜ x ≡ necessary-then-nested p q ⌝ }
 {
@@ -78,7 +78,7 @@ pub fn necessary_then_nested(p: Statement, q: Statement) -> Option<Statement>
     }
 }
 
-// 11: Throughout u d, and there each d is somewhere e.
+// Rule 11: What is d throughout u is somewhere what each d of u is somewhere.
 pub fn necessary_then_possible(p: Statement, q: Statement) -> Option<Statement>
     ensures { λ x. ⌜ x ≡ necessary-then-possible p q ⌝ }
 {
@@ -93,7 +93,7 @@ pub fn necessary_then_possible(p: Statement, q: Statement) -> Option<Statement>
     }
 }
 
-// 12: Somewhere in u d, and there each d is nested.
+// Rule 12: What is d somewhere in u has what each d of u has.
 pub fn possible_then_nested(p: Statement, q: Statement) -> Option<Statement>
     ensures { λ x. ⌜ x ≡ possible-then-nested p q ⌝ }
 {
@@ -108,7 +108,7 @@ pub fn possible_then_nested(p: Statement, q: Statement) -> Option<Statement>
     }
 }
 
-// 13: Somewhere in u d, and there each d is somewhere e.
+// Rule 13: What is d somewhere in u is somewhere what each d of u is somewhere.
 pub fn possible_then_possible(p: Statement, q: Statement) -> Option<Statement>
     ensures { λ x. ⌜ x ≡ possible-then-possible p q ⌝ }
 {
@@ -123,7 +123,7 @@ pub fn possible_then_possible(p: Statement, q: Statement) -> Option<Statement>
     }
 }
 
-// 17: c is c1 and c2, so d.
+// Rule 17: What is c1 and c2 is d.
 pub fn conjunction_met(p: Statement, q: Statement, r: Statement) -> Option<Statement>
     ensures { λ x. ⌜ x ≡ conjunction-met p q r ⌝ }
 {
@@ -140,7 +140,7 @@ pub fn conjunction_met(p: Statement, q: Statement, r: Statement) -> Option<State
     }
 }
 
-// 18: What is necessary here holds here.
+// Rule 18: What each c of s is throughout s, it is where it is c.
 pub fn necessary_here(p: Statement) -> Option<Statement>
     ensures { λ x. ⌜ x ≡ necessary-here p ⌝ }
 {
@@ -152,7 +152,7 @@ pub fn necessary_here(p: Statement) -> Option<Statement>
     }
 }
 
-// 19: What holds of all things holds of each b.
+// Rule 19: What holds of all things throughout s holds in s.
 pub fn of_all_things(p: Statement) -> Option<Statement>
     ensures { λ x. ⌜ x ≡ of-all-things p ⌝ }
 {

@@ -1,9 +1,9 @@
-// Rules on roles.
+// The rule on roles.
 ghost use mathlib.Core.Path.{_≡_};
 ghost use Rattle.standpoint.specs.Conclusions.{role-transitive};
 use crate::statement::Statement;
 
-// 1: Within r2, which is within r3.
+// Rule 1: What lies within r2 lies within r3, where r2 does.
 pub fn role_transitive(p: Statement, q: Statement) -> Option<Statement>
     ensures { λ x. ⌜ x ≡ role-transitive p q ⌝ }
 {

@@ -3,7 +3,7 @@ ghost use mathlib.Core.Path.{_≡_};
 ghost use Rattle.standpoint.specs.Conclusions.{sharper-transitive, sharper-than-both, lowered, lowered-inside};
 use crate::statement::Statement;
 
-// 2: Sharper than t, which is sharper than u.
+// Rule 2: What is sharper than t is sharper than u, where t is.
 pub fn sharper_transitive(p: Statement, q: Statement) -> Option<Statement>
     ensures { λ x. ⌜ x ≡ sharper-transitive p q ⌝ }
 {
@@ -16,7 +16,7 @@ pub fn sharper_transitive(p: Statement, q: Statement) -> Option<Statement>
     }
 }
 
-// 3: Sharper than both, and so than what both together are sharper than.
+// Rule 3: What is sharper than both is sharper than what both together are sharper than.
 pub fn sharper_than_both(p: Statement, q: Statement, r: Statement) -> Option<Statement>
     ensures { λ x. ⌜ x ≡ sharper-than-both p q r ⌝ }
 {
@@ -33,7 +33,7 @@ pub fn sharper_than_both(p: Statement, q: Statement, r: Statement) -> Option<Sta
     }
 }
 
-// 4: What holds in u holds in a sharper s.
+// Rule 4: What is said in u holds in a sharper s.
 pub fn lowered(x: Statement, q: Statement) -> Option<Statement>
     ensures { λ r. ⌜ r ≡ lowered x q ⌝ }
 {
@@ -45,7 +45,7 @@ pub fn lowered(x: Statement, q: Statement) -> Option<Statement>
     }
 }
 
-// 5: What holds throughout u holds throughout a sharper s.
+// Rule 5: What holds throughout u holds throughout a sharper s.
 pub fn lowered_inside(p: Statement, q: Statement) -> Option<Statement>
     ensures { λ x. ⌜ x ≡ lowered-inside p q ⌝ }
 {
