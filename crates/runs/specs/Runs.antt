@@ -5,7 +5,7 @@ use mathlib.Core.Logic.{_⊎_}
 use Prim.Native.Nat.{ℕ, suc, _<_}
 use lib.ListN.{length}
 use Rattle.standpoint.specs.declared.statement.Statement.{Statement}
-use Rattle.standpoint.specs.Lists.{In}
+use Rattle.standpoint.specs.Lists.{In, Distinct}
 use Rattle.standpoint.specs.Algebra.{Algebra, No-worse}
 use Rattle.standpoint.specs.Statements.{Before}
 use Rattle.standpoint.specs.Rules.{Rule}
@@ -20,11 +20,6 @@ Settled G = List (Statement × G)
 -- x is not settled at any grade
 abbrev pub Unsettled : {G : Type 0} → Settled G → Statement → Type 0
 Unsettled {G} settled x = (g : G) → In settled (x, g) → ⊥
-
--- no statement twice
-pub data Distinct : List Statement → Type 0 where
-  none : Distinct []
-  more : {x : Statement} {xs : List Statement} → (In xs x → ⊥) → Distinct xs → Distinct (x ∷ xs)
 
 module _ {G : Type 0} (a : Algebra G) (base : Base G) where
   -- a leaf, or one rule over settled premises, gives x at g

@@ -2,3 +2,4 @@ mod Offers
 mod Lists
 mod Choosing
 mod Stepping
+mod Searches

@@ -11,6 +11,7 @@ use Rattle.standpoint.specs.Lists.{In, Stands-at}
 use Rattle.standpoint.specs.Algebra.{Algebra}
 use Rattle.standpoint.specs.Rules.{Rule}
 use Rattle.standpoint.specs.Derivations.{Base, Leaf}
+use Rattle.standpoint.proofs.Arities.{few-premises}
 use Rattle.runs.specs.Runs.{Offers}
 use Rattle.runs.specs.Runs.Offers.{leaf, one, two, three}
 use Rattle.saturation.specs.declared.row.Kept.{Kept}
@@ -99,15 +100,12 @@ pub stands-in : {X : Type 0} (xs : List X) (k : ℕ) (x : X) → Stands-at xs k 
 stands-in xs k x a = subst (In xs) (a .1 x) (in-getD xs k x (a .0))
 
 module _ {G : Type 0} (al : Algebra G) (base : Base G) (l : List (Statement × G)) where
-  individuals : ℕ
-  individuals = base .sizes .individuals
-
   -- a rule over what stands at places is an offer
   pub step-offers : (rule : ℕ) (places : List ℕ) (x : Statement) (g : G) → Step al (base .sizes .individuals) l rule places (x, g) → Offers al base l x g
   step-offers rule places x g a = go places (a .premises) (a .stand) (a .gives) (a .grade)
     where
       go : (ks : List ℕ) (ps : List (Statement × G)) → Stand-at l ks ps → Rule (base .sizes .individuals) rule (statements-of ps) x → g ≡ joined al (grades-of ps) → Offers al base l x g
-      go ks [] s r e = elim r [ ]
+      go ks [] s r e = let h = few-premises r .0 in absurd (let z : ⊥ = omega arith in z)
       go [] (p ∷ []) s r e = absurd s
       go (k ∷ []) (p ∷ []) s r e = subst (Offers al base l x) (sym e) (one r (stands-in l k p (s .0)))
       go (k ∷ j ∷ ks) (p ∷ []) s r e = absurd (s .1)
@@ -120,4 +118,43 @@ module _ {G : Type 0} (al : Algebra G) (base : Base G) (l : List (Statement × G
       go (k ∷ j ∷ []) (p ∷ q ∷ t ∷ []) s r e = absurd (s .1 .1)
       go (k ∷ j ∷ i ∷ []) (p ∷ q ∷ t ∷ []) s r e = subst (Offers al base l x) (sym e) (three r (stands-in l k p (s .0)) (stands-in l j q (s .1 .0)) (stands-in l i t (s .1 .1 .0)))
       go (k ∷ j ∷ i ∷ h ∷ ks) (p ∷ q ∷ t ∷ []) s r e = absurd (s .1 .1 .1)
-      go ks (p ∷ q ∷ t ∷ u ∷ ps) s r e = elim r [ ]
+      go ks (p ∷ q ∷ t ∷ u ∷ ps) s r e = let h = few-premises r .1 in absurd (let z : ⊥ = omega arith in z)
+
+  -- an offer is a leaf, or a rule over what stands at places
+  pub offers-step : (x : Statement) (g : G) → Offers al base l x g → Leaf al base x g ⊎ ((rule : ℕ) × ((places : List ℕ) × Step al (base .sizes .individuals) l rule places (x, g)))
+  offers-step x g (leaf m) = inl m
+  offers-step x g (one {rule} {p} r m) =
+      let i = in-stands l (p, g) m in
+      inr (rule, (i .0 ∷ [], record { premises = (p, g) ∷ []; stand = (i .1, tt); gives = r; grade = refl }))
+  offers-step x _ (two {rule} {p} {q} {g = g} {h} r m n) =
+      let i = in-stands l (p, g) m in
+      let j = in-stands l (q, h) n in
+      inr (rule, (i .0 ∷ j .0 ∷ [], record { premises = (p, g) ∷ (q, h) ∷ []; stand = (i .1, (j .1, tt)); gives = r; grade = refl }))
+  offers-step x _ (three {rule} {p} {q} {r = t} {g = g} {h} {i = v} r m n o) =
+      let i = in-stands l (p, g) m in
+      let j = in-stands l (q, h) n in
+      let k = in-stands l (t, v) o in
+      inr (rule, (i .0 ∷ j .0 ∷ k .0 ∷ [], record { premises = (p, g) ∷ (q, h) ∷ (t, v) ∷ []; stand = (i .1, (j .1, (k .1, tt))); gives = r; grade = refl }))
+
+module _ {G : Type 0} (al : Algebra G) (base : Base G) (l : List (Statement × G)) (p : Statement × G) where
+  -- what was offered is offered over one settled statement more
+  pub offers-up : (x : Statement) (g : G) → Offers al base l x g → Offers al base (l ++ p ∷ []) x g
+  offers-up x g o =
+      ⊎-elim
+      (λ m. leaf m)
+      (λ s. step-offers al base (l ++ p ∷ []) (s .0) (s .1 .0) x g (step-up l p al (base .sizes .individuals) (s .0) (s .1 .0) (x, g) (s .1 .1)))
+      (offers-step al base l x g o)
+
+  pub uses-offers : (o : Statement × G) → Uses al (base .sizes .individuals) (l ++ p ∷ []) (length l) o → Offers al base (l ++ p ∷ []) (o .0) (o .1)
+  uses-offers o u = step-offers al base (l ++ p ∷ []) (u .rule) (u .places) (o .0) (o .1) (u .step)
+
+  -- an offer over one settled statement more is an old one, or uses the new one
+  pub offers-down : (x : Statement) (g : G) → Offers al base (l ++ p ∷ []) x g → Offers al base l x g ⊎ Uses al (base .sizes .individuals) (l ++ p ∷ []) (length l) (x, g)
+  offers-down x g o =
+      ⊎-elim
+      (λ m. inl (leaf m))
+      (λ s. ⊎-elim
+      (λ old. inl (step-offers al base l (s .0) (s .1 .0) x g old))
+      (λ new. inr new)
+      (step-down l p al (base .sizes .individuals) (s .0) (s .1 .0) (x, g) (s .1 .1)))
+      (offers-step al base (l ++ p ∷ []) x g o)
