@@ -1,5 +1,6 @@
 mod Offers
 mod Lists
+mod Marks
 mod Choosing
 mod Stepping
 mod Searches

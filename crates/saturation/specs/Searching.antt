@@ -8,6 +8,7 @@ use lib.ListN.{length, getD}
 use Rattle.standpoint.specs.declared.statement.Statement.{Statement}
 use Rattle.standpoint.specs.Lists.{In}
 use Rattle.standpoint.specs.Algebra.{Algebra}
+use Rattle.standpoint.specs.Rules.{Rule}
 use Rattle.standpoint.specs.Derivations.{Base}
 use Rattle.saturation.specs.declared.search.Position.{Position}
 use Rattle.saturation.specs.declared.search.Position.the-variants.{First, Second, Third}
@@ -18,6 +19,16 @@ use Rattle.saturation.specs.Offering.{Apart, Best-of, Grown, Rows-right}
 -- the k-th settled statement with its grade, as the rows have it
 abbrev pub Premise : {G : Type 0} → State G → ℕ → Statement × G → Type 0
 Premise {G} s k p = (statement-at s (turn-at s k) ≡ p .0) × ((d : G) → getD (s .grades) (turn-at s k) d ≡ p .1)
+
+-- what the rows hold at settling places; d stands past the end of the grades
+abbrev pub premises-in : {G : Type 0} → State G → G → List ℕ → List (Statement × G)
+premises-in s d [] = []
+premises-in s d (k ∷ ks) = (statement-at s (turn-at s k), getD (s .grades) (turn-at s k) d) ∷ premises-in s d ks
+
+-- each of the places is settled
+abbrev pub Settled-places : ℕ → List ℕ → Type 0
+Settled-places settled [] = Unit {0}
+Settled-places settled (k ∷ ks) = (k < settled) × Settled-places settled ks
 
 -- the rows hold this list as settled, in settling order
 pub record Lists {G : Type 0} (s : State G) (settled : List (Statement × G)) : Type 0 where
@@ -57,11 +68,15 @@ pub record Went {G : Type 0} (a : Algebra G) (individuals : ℕ) (s t : State G)
 abbrev pub Pair : {G : Type 0} → Algebra G → ℕ → ℕ → ℕ → ℕ → List (Statement × G) → Statement × G → Type 0
 Pair a individuals rule n i settled o = Step a individuals settled rule (n ∷ i ∷ []) o ⊎ Step a individuals settled rule (i ∷ n ∷ []) o
 
--- three places, n at this position, and i before j
-abbrev pub arranged : Position → ℕ → ℕ → ℕ → List ℕ
+-- three, n at this position, and i before j
+abbrev pub arranged : {X : Type 0} → Position → X → X → X → List X
 arranged First n i j = n ∷ i ∷ j ∷ []
 arranged Second n i j = i ∷ n ∷ j ∷ []
 arranged Third n i j = i ∷ j ∷ n ∷ []
+
+-- no conclusion with x at this position, and y and some third at the others
+abbrev pub Never-goes : ℕ → Position → Statement → Statement → Type 0
+Never-goes rule position x y = (individuals : ℕ) (z c : Statement) → Rule individuals rule (arranged position x y z) c → ⊥
 
 -- what a rule gives with n at this position, and i and some j below m at the others
 abbrev pub Triples : {G : Type 0} → Algebra G → ℕ → ℕ → Position → ℕ → ℕ → ℕ → List (Statement × G) → Statement × G → Type 0

@@ -94,5 +94,5 @@ abbrev pub settled-row : {G : Type 0} → State G → ℕ → State G
 settled-row s i = one-more (with-place (with-turn s (s .settled) i) i (s .settled + 1))
 
 -- no row is taken
-abbrev pub emptied : {G : Type 0} → State G → State G
-emptied s = record { rows = s .rows; grades = s .grades; len = 0; settled = 0 }
+abbrev pub fresh : {G : Type 0} → List Row → List G → State G
+fresh rows grades = record { rows = rows; grades = grades; len = 0; settled = 0 }

@@ -7,7 +7,11 @@ pub use table::Phase;
 pub use table::Table;
 pub use turn::Turn;
 
+
+mod memory;
+mod offer;
 mod row;
+mod rows;
 mod search;
 mod table;
 mod turn;
