@@ -3,4 +3,6 @@ mod Lists
 mod Marks
 mod Choosing
 mod Stepping
+mod Reading
 mod Searches
+mod Enumerating
