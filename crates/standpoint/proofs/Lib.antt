@@ -7,3 +7,8 @@ pub mod TautologyList
 pub mod Arities
 pub mod RuleFits
 pub mod Pairs
+pub mod Soundness
+pub mod Derived
+pub mod OneThing
+pub mod Trees
+pub mod OneAnswer
