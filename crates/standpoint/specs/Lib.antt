@@ -11,3 +11,4 @@ pub mod Steps
 pub mod Verdicts
 pub mod Conclusions
 pub mod Tautologies
+pub mod Checking
