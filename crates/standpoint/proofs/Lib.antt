@@ -7,3 +7,12 @@ pub mod TautologyList
 pub mod Arities
 pub mod RuleFits
 pub mod Pairs
+pub mod Lists
+pub mod Soundness
+pub mod Derived
+pub mod OneThing
+pub mod Trees
+pub mod Grounds
+pub mod Agreement
+pub mod Passing
+pub mod OneAnswer

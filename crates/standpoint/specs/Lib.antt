@@ -8,5 +8,7 @@ pub mod Rules
 pub mod Structures
 pub mod Derivations
 pub mod Steps
+pub mod Verdicts
 pub mod Conclusions
 pub mod Tautologies
+pub mod Checking

@@ -26,6 +26,7 @@ pub use step::Step;
 pub use tautologies::is_tautology;
 pub use tautologies::tautology;
 pub use tautologies::tautology_count;
+pub use verdict::check;
 
 mod fits;
 mod kinds;
@@ -36,3 +37,4 @@ mod sizes;
 mod statement;
 mod step;
 mod tautologies;
+mod verdict;
