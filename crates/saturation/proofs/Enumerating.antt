@@ -22,6 +22,10 @@ use Rattle.saturation.proofs.Lists.{Fit}
 use Rattle.saturation.proofs.Stepping.{stand-same}
 use Rattle.saturation.proofs.Searches.{Family, Below, went-as, went-then, went-more, went-none, went-stopped, went-false}
 
+pub same-never : (rule : ℕ) (q q′ : Position) (x x′ y y′ : Statement) → q ≡ q′ → x ≡ x′ → y ≡ y′ → Never-goes rule q x y → Never-goes rule q′ x′ y′
+same-never rule q q′ x x′ y y′ e f h never =
+    subst (λ (p : Position). Never-goes rule p x′ y′) e (subst (λ (v : Statement). Never-goes rule q v y′) f (subst (λ (v : Statement). Never-goes rule q x v) h never))
+
 -- two premises that never go together have no conclusion with any third
 module _ (r : Bool) (rule : ℕ) (x y : Statement) (off : r ≡ false) where
   pub never-first : ((n : ℕ) → Tells r (Goes-with n rule x beside.Second y)) → Never-goes rule First x y
@@ -72,6 +76,10 @@ module _ {G : Type 0} (al : Algebra G) (v : ℕ) where
   -- what is to be offered with n at a position, i, and the third at j
   abbrev pub Triple : ℕ → Position → ℕ → ℕ → ℕ → Family G
   Triple rule position n i j l = Step al v l rule (arranged position n i j)
+
+  -- the same with any third
+  abbrev pub Third-of : ℕ → ℕ → ℕ → Position → Family G
+  Third-of rule n i position l = Triples al v rule position n i (length l) l
 
   -- one third premise more
   pub went-triple : (s t u : State G) (rule : ℕ) (position : Position) (n i j : ℕ) (r : Bool) → Fit s →
@@ -205,6 +213,10 @@ module _ {G : Type 0} (al : Algebra G) (v : ℕ) where
   -- what a rule gives around n and all that is settled
   abbrev pub Ruled : ℕ → ℕ → Family G
   Ruled n rule l o = (1 ≤ rule) × Below (Around al v rule n) (length l) l o
+
+  -- before the first rule nothing is to be offered
+  pub went-first-rule : (s : State G) (n : ℕ) → Went al v s s (Below (Ruled n) 1) (Using n) true
+  went-first-rule s n = went-none al v s (Below (Ruled n) 1) (Using n) (λ l is o b. let h = b .1 in let low = b .2 .0 in omega arith)
 
   -- one rule more
   pub went-rule : (s t u : State G) (n rule m : ℕ) → Fit s → 1 ≤ rule → t .settled ≤ m → Went al v s t (Below (Ruled n) rule) (Using n) true → Went al v t u (Below (Around al v rule n) m) (Using n) true → Went al v s u (Below (Ruled n) (rule + 1)) (Using n) true

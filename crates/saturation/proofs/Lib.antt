@@ -1,5 +1,6 @@
 mod Offers
 mod Lists
+mod Sameness
 mod Marks
 mod Choosing
 mod Stepping

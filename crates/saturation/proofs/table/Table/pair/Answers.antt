@@ -1,8 +1,9 @@
-use mathlib.Core.Path.{refl, _∙_}
+use mathlib.Core.Path.{refl}
 use mathlib.Core.Logic.{inl}
 use mathlib.Core.List.{[], _∷_}
 use Rattle.saturation.specs.Tables.{view}
 use Rattle.saturation.specs.Searching.{Pair}
+use Rattle.saturation.proofs.Sameness.{same-then}
 use Rattle.saturation.proofs.Enumerating.{went-pair, went-refused}
 use Rattle.saturation.proofs.table.Table.pair.Needs as need
 
@@ -24,6 +25,6 @@ returns g c =
     let one = c .attempt .ensures .same in
     let two = c .attempt-2 .ensures .same in
     record {
-      same = (two .0 ∙ one .0, two .1 ∙ one .1, two .2 ∙ one .2);
+      same = same-then one two;
       state = went-pair al (c .args .individuals) (view t) (view (c .attempt .last .self)) (view (c .attempt-2 .last .self)) (c .args .rule) (c .args .newest) (c .args .i) (c .attempt .result) (c .attempt-2 .result) (t .«settled_fit», t .turns) (c .if-not-attempt .left) (c .attempt .ensures .state) (c .attempt-2 .ensures .state);
     }

@@ -1,5 +1,5 @@
 use borrow.Author.Needs.{needs}
-use mathlib.Core.Path.{_∙_, refl, subst}
+use mathlib.Core.Path.{refl, sym, subst}
 use mathlib.Core.Bool.{Bool, true}
 use mathlib.Core.List.{List}
 use Prim.Native.Nat.{ℕ, _+_, _<_}
@@ -10,6 +10,7 @@ use Rattle.saturation.specs.Places.{Step}
 use Rattle.saturation.specs.Searching.{Went, Triples, arranged, Settled-places}
 use Rattle.saturation.proofs.Reading.{premises-stand}
 use Rattle.saturation.proofs.Searches.{Below, went-start}
+use Rattle.saturation.proofs.Sameness.{same-then}
 use Rattle.saturation.proofs.Enumerating.{Triple, Using, settled-arranged, in-arranged, went-triple, went-triples, went-never, went-refused, went-broken}
 use Rattle.saturation.proofs.table.Table.triples.Needs as need
 
@@ -29,8 +30,9 @@ attempt-requires g c κs =
     let same = c .loop-j .inv .1 .grown .settled in
     let a = c .pre .0 in
     let b = c .pre .1 in
-    let places = settled-arranged settled (c .args .position) (c .args .newest) (c .args .i) (c .loop-j .j) (omega arith) (omega arith) (omega arith) in
-    ?
+    let al = g .K·Kind .algebra (c .args .kind .now) in
+    let below = settled-arranged al (c .args .individuals) settled (c .args .position) (c .args .newest) (c .args .i) (c .loop-j .j) (omega arith) (omega arith) (omega arith) in
+    subst (Settled-places settled) (sym (c .arrange .ensures)) below
 
 pub returns-then-not-attempt : need.returns-then-not-attempt
 returns-then-not-attempt g c =
@@ -44,7 +46,7 @@ returns-then-not-attempt g c =
     let m = view (c .loop-j .self) in
     let here = subst (λ (ks : List ℕ). Went al v m u (λ l. Step al v l (c .args .rule) ks) (λ l. Step al v l (c .args .rule) ks) (c .attempt .result)) (c .arrange .ensures) (c .attempt .ensures .state) in
     record {
-      same = (one .0 ∙ inv .0 .0, one .1 ∙ inv .0 .1, one .2 ∙ inv .0 .2);
+      same = same-then (inv .0) one;
       state = went-broken al v (view t) m u n (c .args .rule) (arranged (c .args .position) n (c .args .i) (c .loop-j .j)) (Below (Triple al v (c .args .rule) (c .args .position) n (c .args .i)) (c .loop-j .j)) (λ l. Triples al v (c .args .rule) (c .args .position) n (c .args .i) (length l) l) (c .attempt .result) (t .«settled_fit», t .turns) (c .if-not-attempt .taken) (in-arranged al v (c .args .position) n (c .args .i) (c .loop-j .j)) (inv .1) here;
     }
 
@@ -61,7 +63,7 @@ loop-j-again g c =
     let here = subst (λ (ks : List ℕ). Went al v m u (λ l. Step al v l (c .args .rule) ks) (λ l. Step al v l (c .args .rule) ks) (c .attempt .result)) (c .arrange .ensures) (c .attempt .ensures .state) in
     let made = subst (λ (b : Bool). Went al v (view t) u (Below (Triple al v (c .args .rule) (c .args .position) n (c .args .i)) (c .loop-j .j + 1)) (Using al v n) b) (c .if-not-attempt .left)
       (went-triple al v (view t) m u (c .args .rule) (c .args .position) n (c .args .i) (c .loop-j .j) (c .attempt .result) (t .«settled_fit», t .turns) (inv .1) here) in
-    ((one .0 ∙ inv .0 .0, one .1 ∙ inv .0 .1, one .2 ∙ inv .0 .2), made)
+    (same-then (inv .0) one, made)
 
 pub returns : need.returns
 returns g c =
