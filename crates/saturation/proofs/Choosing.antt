@@ -41,3 +41,10 @@ module _ {G : Type 0} (a : Algebra G) (l : Laws a) where
   first-left s at i f behind =
       let h = f .0 in
       (omega arith, f .1, below-more (λ k. Open-at s k → Row-ahead a s k at → ⊥) i (f .2) (λ o r. behind r))
+
+  pub first-alone : (s : State G) (i : ℕ) (d : G) → Chosen a s i None → Open-at s i → Chosen a s (i + 1) (Some i)
+  first-alone s i d none un = (
+    omega arith,
+    un,
+    below-more (λ k. Open-at s k → Row-ahead a s k i → ⊥) i (λ k h o r. none k h o) (λ o r. ahead-irreflexive _ (statement-at s i) (r d)),
+  )

@@ -7,3 +7,6 @@ mod Stepping
 mod Reading
 mod Searches
 mod Enumerating
+mod Pigeons
+mod Opening
+mod Settling

@@ -13,7 +13,7 @@ use Rattle.standpoint.specs.Derivations.{Base}
 use Rattle.runs.specs.Runs.{Unsettled}
 use Rattle.saturation.specs.declared.turn.Turn.{Turn}
 use Rattle.saturation.specs.declared.turn.Turn.the-variants.{Nothing, Settled, Overflowed}
-use Rattle.saturation.specs.Tables.{State, statement-at}
+use Rattle.saturation.specs.Tables.{State, statement-at, Open-at}
 use Rattle.saturation.specs.Places.{Uses}
 use Rattle.saturation.specs.Offering.{Apart, Best-of, Grown, Rows-right, Explained}
 use Rattle.saturation.specs.Searching.{Lists, Enumerated, Stuck, New-from}
@@ -45,6 +45,6 @@ pub record Took-turn {G : Type 0} (a : Algebra G) (individuals : ℕ) (s t : Sta
 
 -- nothing was left to settle, or one was settled, its consequences all offered or not
 abbrev pub Turned : {G : Type 0} → Algebra G → ℕ → State G → State G → Turn → Type 0
-Turned {G} a individuals s t Nothing = (t ≡ s) × (s .len ≤ s .settled)
+Turned {G} a individuals s t Nothing = (t ≡ s) × ((settled : List (Statement × G)) → Lists s settled → (k : ℕ) → k < s .len → Open-at s k → ⊥)
 Turned a individuals s t Settled = Took-turn a individuals s t true
 Turned a individuals s t Overflowed = Took-turn a individuals s t false

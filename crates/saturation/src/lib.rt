@@ -7,7 +7,7 @@ pub use table::Phase;
 pub use table::Table;
 pub use turn::Turn;
 
-
+mod choose;
 mod memory;
 mod offer;
 mod row;
