@@ -10,3 +10,4 @@ mod Enumerating
 mod Pigeons
 mod Opening
 mod Settling
+mod Taking
