@@ -14,12 +14,12 @@ module _ {G : Type 0} (a : Algebra G) where
   -- a settled grade is the grade of a derivation, and no derivation is better
   abbrev pub Settled-is-best : Type 0
   Settled-is-best = (base : Base G) (settled : Settled G) → Run a base settled → (x : Statement) (g : G) → In settled (x, g) →
-    Derives a base x g × ((d : G) → Derives a base x d → No-worse a g d)
+      Derives a base x g × ((d : G) → Derives a base x d → No-worse a g d)
 
   -- once every known statement is settled, exactly the derivable statements are settled
   abbrev pub None-is-exact : Type 0
   None-is-exact = (base : Base G) (settled : Settled G) → Run a base settled → All-settled a base settled → (x : Statement) →
-    (Unsettled settled x ↔ ((d : G) → Derives a base x d → ⊥))
+      (Unsettled settled x ↔ ((d : G) → Derives a base x d → ⊥))
 
   -- a run of a given length is unique
   abbrev pub One-run : Type 0
@@ -28,4 +28,4 @@ module _ {G : Type 0} (a : Algebra G) where
   -- what settling settles is determined
   abbrev pub One-settling : Type 0
   One-settling = (base : Base G) (rows n : ℕ) (settled later other : Settled G) →
-    Settling a base rows n settled later → Settling a base rows n settled other → later ≡ other
+      Settling a base rows n settled later → Settling a base rows n settled other → later ≡ other

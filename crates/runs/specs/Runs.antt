@@ -26,11 +26,11 @@ module _ {G : Type 0} (a : Algebra G) (base : Base G) where
   pub data Offers (settled : Settled G) : Statement → G → Type 0 where
     leaf : {x : Statement} {g : G} → Leaf a base x g → Offers settled x g
     one : {rule : ℕ} {p x : Statement} {g : G} → Rule (base .sizes .individuals) rule (p ∷ []) x →
-      In settled (p, g) → Offers settled x g
+        In settled (p, g) → Offers settled x g
     two : {rule : ℕ} {p q x : Statement} {g h : G} → Rule (base .sizes .individuals) rule (p ∷ q ∷ []) x →
-      In settled (p, g) → In settled (q, h) → Offers settled x (a .join g h)
+        In settled (p, g) → In settled (q, h) → Offers settled x (a .join g h)
     three : {rule : ℕ} {p q r x : Statement} {g h i : G} → Rule (base .sizes .individuals) rule (p ∷ q ∷ r ∷ []) x →
-      In settled (p, g) → In settled (q, h) → In settled (r, i) → Offers settled x (a .join (a .join g h) i)
+        In settled (p, g) → In settled (q, h) → In settled (r, i) → Offers settled x (a .join (a .join g h) i)
 
   abbrev pub Known : Settled G → Statement → Type 0
   Known settled x = (g : G) × Offers settled x g
@@ -66,4 +66,4 @@ module _ {G : Type 0} (a : Algebra G) (base : Base G) where
     no-more-asked : {settled : Settled G} → Settling rows 0 settled []
     no-more-to-do : {n : ℕ} {settled : Settled G} → Stands rows settled Full ⊎ Stands rows settled Ended → Settling rows (suc n) settled []
     one-more : {n : ℕ} {settled later : Settled G} {x : Statement} {g : G} → (Stands rows settled Full → ⊥) → Next settled x g →
-      Settling rows n (settled ++ (x, g) ∷ []) later → Settling rows (suc n) settled ((x, g) ∷ later)
+        Settling rows n (settled ++ (x, g) ∷ []) later → Settling rows (suc n) settled ((x, g) ∷ later)

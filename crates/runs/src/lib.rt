@@ -1,6 +1,6 @@
 // How a run settles statements, and the laws that every run keeps.
-
-
+ghost use Rattle.runs.specs.Laws.{None-is-exact, One-run, One-settling, Settled-is-best};
+use standpoint::Kind;
 
 // How a run stands.
 #[derive(Clone, Copy)]
@@ -12,3 +12,11 @@ pub enum Stand {
     // The known statements outnumber the rows.
     Full,
 }
+
+// The laws of runs, for every kind of grade.
+pub fn runs_are_lawful<K: Kind>(kind: &K)
+    ensures best { λ _. ⌜ Settled-is-best (K·Kind .algebra (now (kind .entry))) ⌝ }
+    ensures none { λ _. ⌜ None-is-exact (K·Kind .algebra (now (kind .entry))) ⌝ }
+    ensures one_run { λ _. ⌜ One-run (K·Kind .algebra (now (kind .entry))) ⌝ }
+    ensures one_settling { λ _. ⌜ One-settling (K·Kind .algebra (now (kind .entry))) ⌝ }
+{}

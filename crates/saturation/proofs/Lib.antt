@@ -11,3 +11,4 @@ mod Pigeons
 mod Opening
 mod Settling
 mod Taking
+mod Going

@@ -12,6 +12,7 @@ mod memory;
 mod offer;
 mod row;
 mod rows;
+mod run;
 mod search;
 mod table;
 mod turn;
