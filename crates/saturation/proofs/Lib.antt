@@ -12,3 +12,4 @@ mod Opening
 mod Settling
 mod Taking
 mod Going
+mod Counting

@@ -7,7 +7,8 @@ use Rattle.standpoint.specs.declared.statement.Statement.{Statement}
 use Rattle.standpoint.specs.Lists.{In}
 use Rattle.standpoint.specs.Algebra.{Algebra}
 use Rattle.standpoint.specs.Derivations.{Base}
-use Rattle.runs.specs.Runs.{Settled, Offers, Next, Run, Stands, All-settled}
+use Rattle.runs.specs.Runs.{Settled, Offers, Next, Run, Stands, All-settled, Settling}
+use Rattle.runs.specs.declared.Stand.{Stand}
 use Rattle.runs.specs.declared.Stand.the-variants.{Open, Ended, Full}
 use Rattle.saturation.specs.declared.turn.Turn.{Turn}
 use Rattle.saturation.specs.declared.turn.Turn.the-variants as turn
@@ -43,3 +44,16 @@ Went-on {G} a base settled t turn.Overflowed = (x : Statement) × ((g : G) × (N
 -- the same of any run that the rows hold, over as many individuals
 abbrev pub Goes-on : {G : Type 0} → Algebra G → ℕ → State G → State G → Turn → Type 0
 Goes-on {G} a individuals s t r = (base : Base G) → base .sizes .individuals ≡ individuals → (settled : Settled G) → Holds a base settled s → Went-on a base settled t r
+
+-- what the rows hold of a run that stands so
+abbrev pub Holds-as : {G : Type 0} → Algebra G → Base G → Settled G → State G → Stand → Type 0
+Holds-as a base settled s Open = Holds a base settled s
+Holds-as a base settled s Ended = Holds a base settled s
+Holds-as a base settled s Full = Holds-full a base settled s
+
+-- n turns, unless the run stands ended or full before: how many were taken, and how the run stands
+abbrev pub Settles : {G : Type 0} → Algebra G → ℕ → State G → State G → ℕ → ℕ → Stand → Type 0
+Settles {G} a individuals s t n count stand =
+    (base : Base G) → base .sizes .individuals ≡ individuals → (settled : Settled G) → Holds a base settled s →
+    (later : Settled G) × ((length later ≡ count) × (Settling a base (capacity s) n settled later
+      × (Stands a base (capacity s) (settled ++ later) stand × Holds-as a base (settled ++ later) t stand)))
