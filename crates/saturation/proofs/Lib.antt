@@ -13,3 +13,4 @@ mod Settling
 mod Taking
 mod Going
 mod Counting
+mod Lasting
