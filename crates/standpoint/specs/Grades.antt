@@ -39,7 +39,6 @@ rank C = 2
 rank D = 3
 rank E = 4
 
-
 -- A is best; the join is the worse letter
 abbrev pub letter : Algebra LetterGrade
 letter = record {
