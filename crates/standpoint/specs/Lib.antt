@@ -3,3 +3,12 @@ pub mod Sizes
 pub mod Lists
 pub mod Algebra
 pub mod Grades
+pub mod Statements
+pub mod Rules
+pub mod Structures
+pub mod Derivations
+pub mod Steps
+pub mod Verdicts
+pub mod Conclusions
+pub mod Tautologies
+pub mod Checking
