@@ -5,8 +5,8 @@ pub mod Algebra
 pub mod Grades
 pub mod Statements
 pub mod Rules
+pub mod Tautologies
 pub mod Structures
 pub mod Derivations
 pub mod Steps
 pub mod Conclusions
-pub mod Tautologies
