@@ -21,6 +21,7 @@ pub use sizes::Sizes;
 pub use statement::Sort;
 pub use statement::Sorts;
 pub use statement::Statement;
+pub use statement::StatementPartialEq;
 pub use step::Step;
 pub use tautologies::is_tautology;
 pub use tautologies::tautology;
