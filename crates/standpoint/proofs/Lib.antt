@@ -1,9 +1,9 @@
 pub mod GradeLaws
 pub mod Orders
 pub mod Testing
-pub mod Conclusions
 pub mod Listing
 pub mod TautologyList
+pub mod Conclusions
 pub mod Arities
 pub mod RuleFits
 pub mod Pairs

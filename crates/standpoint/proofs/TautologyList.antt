@@ -23,7 +23,7 @@ use Rattle.standpoint.specs.Statements.{sharper, nested-inclusion, role-inclus
 use Rattle.standpoint.specs.Rules.{Tautology}
 use Rattle.standpoint.specs.Rules.Tautology.{sharper-than-all, sharper-than-itself, within-itself, within-top, role-within-itself}
 use Rattle.standpoint.specs.Tautologies.{tautologies, Lists-tautologies, on-standpoints, on-concepts, on-roles}
-use Rattle.standpoint.proofs.Testing.{same-true, same-refl, and-true, or-true}
+use Rattle.standpoint.proofs.Testing.{same-true, same-refl, and-true, or-true, told}
 use Rattle.standpoint.proofs.Listing.{in-left, in-right, in-either, in-stretch, of-stretch, nth-part, nth-stretch, Placed, placed-part, placed-stretch, placed-distinct}
 
 module _ (n : Sizes) where
@@ -149,5 +149,4 @@ module _ (n : Sizes) where
       let within = lt-ltb r (n .roles) h in let here = same-refl (role-inclusion 0 r r) in grind arith
 
   pub tautology-told : (x : Statement) (b : Bool) → b ≡ (on-standpoints n x || (on-concepts n x || on-roles n x)) → Tells b (Tautology n x)
-  tautology-told x true e = test-sound x (sym e)
-  tautology-told x false e = λ t. let f = test-complete x t in absurd (grind arith)
+  tautology-told x b e = told (Tautology n x) b _ e (test-sound x) (test-complete x)

@@ -8,6 +8,7 @@ use lib.Dec.{eqb}
 use borrow.Author.Tests.{eqb-true}
 use Rattle.std.proofs.shelf.Ways.{tells}
 use Rattle.standpoint.specs.declared.statement.Statement.{Statement}
+use Rattle.standpoint.specs.Lists.{Tells}
 use Rattle.standpoint.specs.Statements.{same}
 use Rattle.standpoint.proofs.Orders.{same-numbers}
 
@@ -41,3 +42,8 @@ at-number P number n here rest v h first others = go (eqb number n) (eqb-true nu
     go : (b : Bool) → (b ≡ true → number ≡ n) → cond b here rest ≡ v → P number
     go true e k = subst P (sym (e refl)) (first k)
     go false e k = others k
+
+-- a test that is exact tells
+pub told : (P : Type 0) (b t : Bool) → b ≡ t → (t ≡ true → P) → (P → t ≡ true) → Tells b P
+told P true t e sound complete = sound (sym e)
+told P false t e sound complete = λ p. let f = complete p in absurd (grind arith)

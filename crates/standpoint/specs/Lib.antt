@@ -5,10 +5,10 @@ pub mod Algebra
 pub mod Grades
 pub mod Statements
 pub mod Rules
+pub mod Tautologies
 pub mod Structures
 pub mod Derivations
 pub mod Steps
 pub mod Verdicts
 pub mod Conclusions
-pub mod Tautologies
 pub mod Checking

@@ -89,7 +89,7 @@ impl Statement {
     }
 
     // Whether this is the same statement as another.
-    pub fn same(self, other: Statement) -> bool
+    pub(crate) fn same(self, other: Statement) -> bool
         ensures { λ r. ⌜ r ≡ same self other ⌝ }
     {
         self == other

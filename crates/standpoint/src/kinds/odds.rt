@@ -1,4 +1,6 @@
 // Odds: by what share of 255 a statement is thought to hold.
+ghost use mathlib.Core.Path.{_≡_};
+ghost use Prim.Native.Nat.{_*_, _/_};
 ghost use Rattle.standpoint.specs.Grades.{odds};
 use crate::kinds::Kind;
 use crate::kinds::grades::OddsGrade;
@@ -21,9 +23,14 @@ pub impl Kind for Odds as OddsKind {
     }
 
     fn join(&self, a: OddsGrade, b: OddsGrade) -> OddsGrade {
-        let product = u16::from(a.value) * u16::from(b.value);
         OddsGrade {
-            value: (product / 255) as u8,
+            value: share(a.value, b.value),
         }
     }
+}
+
+fn share(a: u8, b: u8) -> u8
+    ensures { λ r. ⌜ r ≡ a * b / 255 ⌝ }
+{
+    (u16::from(a) * u16::from(b) / 255) as u8
 }

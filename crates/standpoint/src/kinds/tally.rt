@@ -1,4 +1,6 @@
 // Tallies: how many doubts a statement rests on.
+ghost use mathlib.Core.Path.{_≡_};
+ghost use Prim.Native.Nat.{_+_, min};
 ghost use Rattle.standpoint.specs.Grades.{tally};
 use crate::kinds::Kind;
 use crate::kinds::grades::TallyGrade;
@@ -22,7 +24,13 @@ pub impl Kind for Tally as TallyKind {
 
     fn join(&self, a: TallyGrade, b: TallyGrade) -> TallyGrade {
         TallyGrade {
-            value: a.value.saturating_add(b.value),
+            value: held_sum(a.value, b.value),
         }
     }
+}
+
+fn held_sum(a: u32, b: u32) -> u32
+    ensures { λ r. ⌜ r ≡ min (a + b) 4294967295 ⌝ }
+{
+    a.saturating_add(b)
 }

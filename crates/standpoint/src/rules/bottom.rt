@@ -4,7 +4,7 @@ ghost use Rattle.standpoint.specs.Conclusions.{existential-empty, necessary-em
 use crate::statement::Statement;
 
 // Rule 20: Nothing has a role to nothing.
-pub fn existential_empty(p: Statement) -> Option<Statement>
+pub(super) fn existential_empty(p: Statement) -> Option<Statement>
     ensures { λ x. ⌜ x ≡ existential-empty p ⌝ }
 {
     let (s, c, r) = (p.first, p.second, p.third);
@@ -16,7 +16,7 @@ pub fn existential_empty(p: Statement) -> Option<Statement>
 }
 
 // Rule 21: What is nothing throughout a standpoint is nothing.
-pub fn necessary_empty(p: Statement) -> Option<Statement>
+pub(super) fn necessary_empty(p: Statement) -> Option<Statement>
     ensures { λ x. ⌜ x ≡ necessary-empty p ⌝ }
 {
     let (t, c, v) = (p.first, p.second, p.third);
@@ -28,7 +28,7 @@ pub fn necessary_empty(p: Statement) -> Option<Statement>
 }
 
 // Rule 22: What is nothing somewhere is nothing.
-pub fn possible_empty(p: Statement) -> Option<Statement>
+pub(super) fn possible_empty(p: Statement) -> Option<Statement>
     ensures { λ x. ⌜ x ≡ possible-empty p ⌝ }
 {
     let (s, c, v) = (p.first, p.second, p.third);
@@ -40,7 +40,7 @@ pub fn possible_empty(p: Statement) -> Option<Statement>
 }
 
 // Rule 23: An individual is never nothing.
-pub fn individual_empty(individuals: u16, p: Statement) -> Option<Statement>
+pub(super) fn individual_empty(individuals: u16, p: Statement) -> Option<Statement>
     ensures { λ x. ⌜ x ≡ individual-empty individuals p ⌝ }
 {
     let (v, a, u) = (p.first, p.second, p.third);

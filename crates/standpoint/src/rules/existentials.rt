@@ -4,7 +4,7 @@ ghost use Rattle.standpoint.specs.Conclusions.{existential-widened, existentia
 use crate::statement::Statement;
 
 // Rule 14: An r1 to some d is an r2 to some e.
-pub fn existential_widened(p: Statement, q: Statement, r: Statement) -> Option<Statement>
+pub(super) fn existential_widened(p: Statement, q: Statement, r: Statement) -> Option<Statement>
     ensures { λ x. ⌜ x ≡ existential-widened p q r ⌝ }
 {
     let (s, c, r1, d) = (p.first, p.second, p.third, p.fourth);
@@ -21,7 +21,7 @@ pub fn existential_widened(p: Statement, q: Statement, r: Statement) -> Option<S
 }
 
 // Rule 15: An r1 followed by an r2 is an r3.
-pub fn existential_chained(p: Statement, q: Statement, r: Statement) -> Option<Statement>
+pub(super) fn existential_chained(p: Statement, q: Statement, r: Statement) -> Option<Statement>
     ensures { λ x. ⌜ x ≡ existential-chained p q r ⌝ }
 {
     let (s, c, r1, d) = (p.first, p.second, p.third, p.fourth);
@@ -38,7 +38,7 @@ pub fn existential_chained(p: Statement, q: Statement, r: Statement) -> Option<S
 }
 
 // Rule 16: What has an r to some d is f.
-pub fn existential_met(p: Statement, q: Statement) -> Option<Statement>
+pub(super) fn existential_met(p: Statement, q: Statement) -> Option<Statement>
     ensures { λ x. ⌜ x ≡ existential-met p q ⌝ }
 {
     let (s, c, r, d) = (p.first, p.second, p.third, p.fourth);

@@ -4,7 +4,7 @@ ghost use Rattle.standpoint.specs.Conclusions.{inside-transitive, subsumed-nes
 use crate::statement::Statement;
 
 // Rule 6: Inside, each c is d, and each d is e.
-pub fn inside_transitive(p: Statement, q: Statement) -> Option<Statement>
+pub(super) fn inside_transitive(p: Statement, q: Statement) -> Option<Statement>
     ensures { λ x. ⌜ x ≡ inside-transitive p q ⌝ }
 {
     let (t, b, s, c, d) = (p.first, p.second, p.third, p.fourth, p.fifth);
@@ -19,7 +19,7 @@ pub fn inside_transitive(p: Statement, q: Statement) -> Option<Statement>
 }
 
 // Rule 7: Each b of t is c, and so has what each c has.
-pub fn subsumed_nested(p: Statement, q: Statement) -> Option<Statement>
+pub(super) fn subsumed_nested(p: Statement, q: Statement) -> Option<Statement>
     ensures { λ x. ⌜ x ≡ subsumed-nested p q ⌝ }
 {
     let (v, t, b, c) = (p.first, p.third, p.fourth, p.fifth);
@@ -34,7 +34,7 @@ pub fn subsumed_nested(p: Statement, q: Statement) -> Option<Statement>
 }
 
 // Rule 8: Each c of t is d, and so is somewhere what each d is somewhere.
-pub fn subsumed_possible(p: Statement, q: Statement) -> Option<Statement>
+pub(super) fn subsumed_possible(p: Statement, q: Statement) -> Option<Statement>
     ensures { λ x. ⌜ x ≡ subsumed-possible p q ⌝ }
 {
     let (v, t, c, d) = (p.first, p.third, p.fourth, p.fifth);
@@ -49,7 +49,7 @@ pub fn subsumed_possible(p: Statement, q: Statement) -> Option<Statement>
 }
 
 // Rule 9: What is d somewhere in s is e there.
-pub fn possible_widened(p: Statement, q: Statement) -> Option<Statement>
+pub(super) fn possible_widened(p: Statement, q: Statement) -> Option<Statement>
     ensures { λ x. ⌜ x ≡ possible-widened p q ⌝ }
 {
     let (t, c, s, d) = (p.first, p.second, p.third, p.fourth);
@@ -64,7 +64,7 @@ pub fn possible_widened(p: Statement, q: Statement) -> Option<Statement>
 }
 
 // Rule 10: What is d throughout u has what each d of u has.
-pub fn necessary_then_nested(p: Statement, q: Statement) -> Option<Statement>
+pub(super) fn necessary_then_nested(p: Statement, q: Statement) -> Option<Statement>
     ensures { λ x. ⌜ x ≡ necessary-then-nested p q ⌝ }
 {
     let (t, c, u, d) = (p.first, p.second, p.third, p.fifth);
@@ -79,7 +79,7 @@ pub fn necessary_then_nested(p: Statement, q: Statement) -> Option<Statement>
 }
 
 // Rule 11: What is d throughout u is somewhere what each d of u is somewhere.
-pub fn necessary_then_possible(p: Statement, q: Statement) -> Option<Statement>
+pub(super) fn necessary_then_possible(p: Statement, q: Statement) -> Option<Statement>
     ensures { λ x. ⌜ x ≡ necessary-then-possible p q ⌝ }
 {
     let (t, c, u, d) = (p.first, p.second, p.third, p.fifth);
@@ -94,7 +94,7 @@ pub fn necessary_then_possible(p: Statement, q: Statement) -> Option<Statement>
 }
 
 // Rule 12: What is d somewhere in u has what each d of u has.
-pub fn possible_then_nested(p: Statement, q: Statement) -> Option<Statement>
+pub(super) fn possible_then_nested(p: Statement, q: Statement) -> Option<Statement>
     ensures { λ x. ⌜ x ≡ possible-then-nested p q ⌝ }
 {
     let (t, c, u, d) = (p.first, p.second, p.third, p.fourth);
@@ -109,7 +109,7 @@ pub fn possible_then_nested(p: Statement, q: Statement) -> Option<Statement>
 }
 
 // Rule 13: What is d somewhere in u is somewhere what each d of u is somewhere.
-pub fn possible_then_possible(p: Statement, q: Statement) -> Option<Statement>
+pub(super) fn possible_then_possible(p: Statement, q: Statement) -> Option<Statement>
     ensures { λ x. ⌜ x ≡ possible-then-possible p q ⌝ }
 {
     let (t, c, u, d) = (p.first, p.second, p.third, p.fourth);
@@ -124,7 +124,7 @@ pub fn possible_then_possible(p: Statement, q: Statement) -> Option<Statement>
 }
 
 // Rule 17: What is c1 and c2 is d.
-pub fn conjunction_met(p: Statement, q: Statement, r: Statement) -> Option<Statement>
+pub(super) fn conjunction_met(p: Statement, q: Statement, r: Statement) -> Option<Statement>
     ensures { λ x. ⌜ x ≡ conjunction-met p q r ⌝ }
 {
     let (t, b, s, c, c1) = (p.first, p.second, p.third, p.fourth, p.fifth);
@@ -141,7 +141,7 @@ pub fn conjunction_met(p: Statement, q: Statement, r: Statement) -> Option<State
 }
 
 // Rule 18: What each c of s is throughout s, it is where it is c.
-pub fn necessary_here(p: Statement) -> Option<Statement>
+pub(super) fn necessary_here(p: Statement) -> Option<Statement>
     ensures { λ x. ⌜ x ≡ necessary-here p ⌝ }
 {
     let (s, c, d) = (p.first, p.second, p.fifth);
@@ -153,7 +153,7 @@ pub fn necessary_here(p: Statement) -> Option<Statement>
 }
 
 // Rule 19: What holds of all things throughout s holds in s.
-pub fn of_all_things(p: Statement) -> Option<Statement>
+pub(super) fn of_all_things(p: Statement) -> Option<Statement>
     ensures { λ x. ⌜ x ≡ of-all-things p ⌝ }
 {
     let (v, s, c, d) = (p.first, p.third, p.fourth, p.fifth);

@@ -4,7 +4,7 @@ ghost use Rattle.standpoint.specs.Conclusions.{role-transitive};
 use crate::statement::Statement;
 
 // Rule 1: What lies within r2 lies within r3, where r2 does.
-pub fn role_transitive(p: Statement, q: Statement) -> Option<Statement>
+pub(super) fn role_transitive(p: Statement, q: Statement) -> Option<Statement>
     ensures { λ x. ⌜ x ≡ role-transitive p q ⌝ }
 {
     let (s, r1, r2) = (p.first, p.second, p.third);

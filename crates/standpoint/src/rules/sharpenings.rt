@@ -4,7 +4,7 @@ ghost use Rattle.standpoint.specs.Conclusions.{sharper-transitive, sharper-tha
 use crate::statement::Statement;
 
 // Rule 2: What is sharper than t is sharper than u, where t is.
-pub fn sharper_transitive(p: Statement, q: Statement) -> Option<Statement>
+pub(super) fn sharper_transitive(p: Statement, q: Statement) -> Option<Statement>
     ensures { λ x. ⌜ x ≡ sharper-transitive p q ⌝ }
 {
     let (s, t) = (p.first, p.second);
@@ -17,7 +17,7 @@ pub fn sharper_transitive(p: Statement, q: Statement) -> Option<Statement>
 }
 
 // Rule 3: What is sharper than both is sharper than what both together are sharper than.
-pub fn sharper_than_both(p: Statement, q: Statement, r: Statement) -> Option<Statement>
+pub(super) fn sharper_than_both(p: Statement, q: Statement, r: Statement) -> Option<Statement>
     ensures { λ x. ⌜ x ≡ sharper-than-both p q r ⌝ }
 {
     let (s, s1) = (p.first, p.second);
@@ -34,7 +34,7 @@ pub fn sharper_than_both(p: Statement, q: Statement, r: Statement) -> Option<Sta
 }
 
 // Rule 4: What is said in u holds in a sharper s.
-pub fn lowered(x: Statement, q: Statement) -> Option<Statement>
+pub(super) fn lowered(x: Statement, q: Statement) -> Option<Statement>
     ensures { λ r. ⌜ r ≡ lowered x q ⌝ }
 {
     let s = q.first;
@@ -46,7 +46,7 @@ pub fn lowered(x: Statement, q: Statement) -> Option<Statement>
 }
 
 // Rule 5: What holds throughout u holds throughout a sharper s.
-pub fn lowered_inside(p: Statement, q: Statement) -> Option<Statement>
+pub(super) fn lowered_inside(p: Statement, q: Statement) -> Option<Statement>
     ensures { λ x. ⌜ x ≡ lowered-inside p q ⌝ }
 {
     let (t, c, u, d, e) = (p.first, p.second, p.third, p.fourth, p.fifth);

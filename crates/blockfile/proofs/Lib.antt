@@ -1,0 +1,4 @@
+mod Coded
+mod Parts
+mod Unsound
+mod Weights
