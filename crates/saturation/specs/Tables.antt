@@ -10,6 +10,8 @@ use Rattle.std.specs.declared.option.Option.the-variants.{None, Some}
 use Rattle.standpoint.specs.declared.statement.Statement.{Statement}
 use Rattle.saturation.specs.declared.row.Kept.{Kept}
 use Rattle.saturation.specs.declared.row.Row.{Row}
+use Rattle.standpoint.specs.declared.sizes.Sizes.{Sizes}
+use Rattle.saturation.specs.declared.table.Phase.{Phase}
 use Rattle.saturation.specs.declared.table.Table.{Table}
 use Rattle.saturation.specs.Rows.{row, no-row}
 
@@ -22,6 +24,17 @@ pub record State (G : Type 0) : Type 0 where
 
 abbrev pub view : {G : Type 0} → Table G → State G
 view t = record { rows = t .rows .now; grades = t .grades .now; len = t .len; settled = t .settled }
+
+-- over the same memory
+abbrev pub Over-same : {G : Type 0} → Table G → Table G → Type 0
+Over-same s t = (t .rows .name ≡ s .rows .name) × (t .grades .name ≡ s .grades .name)
+
+-- the sizes, whether a run is begun, its base sealed, and whether it stands full
+abbrev pub phase : Sizes → Bool → Bool → Bool → Phase
+phase n begun sealed full = record { sizes = n; begun = begun; sealed = sealed; full = full }
+
+abbrev pub sealed-phase : Phase → Bool → Phase
+sealed-phase p full = phase (p .sizes) (p .begun) true full
 
 -- over the same memory, and in the same phase
 abbrev pub Same : {G : Type 0} → Table G → Table G → Type 0

@@ -10,7 +10,8 @@ use crate::table::Table;
 use standpoint::Statement;
 use standpoint::StatementPartialEq;
 
-const MOST_ROWS: usize = 16_777_215;
+// No table uses more rows.
+pub(crate) const MOST_ROWS: usize = 16_777_215;
 
 impl<'a, G: Copy> Table<'a, G> {
     // The row that holds the statement, or none.
