@@ -1,5 +1,5 @@
 -- A run settles each statement at the best grade of its derivations.
-use mathlib.Core.Path.{_≡_, refl, sym, ap, subst}
+use mathlib.Core.Path.{sym, ap, subst}
 use mathlib.Core.List.{_∷_, [], _++_}
 use mathlib.Core.Logic.{_⊎_, inl, inr}
 use Rattle.standpoint.specs.declared.statement.Statement.{Statement}
@@ -7,30 +7,17 @@ use Rattle.standpoint.specs.Lists.{In}
 use Rattle.standpoint.specs.Algebra.{Algebra, Laws, No-worse}
 use Rattle.standpoint.specs.Derivations.{Base, Derives}
 use Rattle.standpoint.proofs.Listing.{in-left}
-use Rattle.runs.specs.Runs.{Settled, Unsettled, Offers, Next, Run}
+use Rattle.runs.specs.Runs.{Settled, Unsettled, Offers, Run}
 use Rattle.runs.specs.Runs.Run.{fresh, settles}
 use Rattle.runs.specs.Laws.{Settled-is-best, None-is-exact}
+use Rattle.runs.proofs.Grades.{no-worse-itself, no-worse-same, joins, above-first, above-second}
 use Rattle.runs.proofs.Offers.{new-or-old, settled-or, settled-derives, derived-settled, settled-once}
 
 module _ {G : Type 0} (a : Algebra G) (laws : Laws a) (base : Base G) where
-  no-worse-same : (g h : G) → g ≡ h → No-worse a g h
-  no-worse-same g h e = subst (No-worse a g) e (elim (laws .total g g) [ inl w ↦ w | inr w ↦ w ])
-
-  -- parts no worse make a join no worse
-  joins : (g h i j : G) → No-worse a g h → No-worse a i j → No-worse a (a .join g i) (a .join h j)
-  joins g h i j v w = laws .trans _ _ _ (laws .mono-left g h i v) (laws .mono-right i j h w)
-
-  -- a join of three is no better than its first part or its second
-  above-first : (g h i : G) → No-worse a g (a .join (a .join g h) i)
-  above-first g h i = laws .trans _ _ _ (laws .left g h) (laws .left (a .join g h) i)
-
-  above-second : (g h i : G) → No-worse a h (a .join (a .join g h) i)
-  above-second g h i = laws .trans _ _ _ (laws .right g h) (laws .left (a .join g h) i)
-
   -- a settled grade is no worse than the new one's, or was settled before
   new-grade : (settled : Settled G) (o : Statement × G) (p : Statement) (h : G) → In (settled ++ o ∷ []) (p, h) → No-worse a (o .1) h ⊎ In settled (p, h)
   new-grade settled o p h m = elim (new-or-old settled o (p, h) m) [
-    | inl e ↦ inl (no-worse-same (o .1) h (ap (λ (v : Statement × G). v .1) e))
+    | inl e ↦ inl (no-worse-same a laws (o .1) h (ap (λ (v : Statement × G). v .1) e))
     | inr old ↦ inr old
   ]
 
@@ -47,9 +34,9 @@ module _ {G : Type 0} (a : Algebra G) (laws : Laws a) (base : Base G) where
     ]
   ]
   old-or-no-better settled o (Offers.three {g} {h} {i} r p q s) = elim (new-grade settled o _ _ p) [
-    | inl w ↦ inr (laws .trans _ g _ w (above-first g h i))
+    | inl w ↦ inr (laws .trans _ g _ w (above-first a laws g h i))
     | inr p′ ↦ elim (new-grade settled o _ _ q) [
-      | inl w ↦ inr (laws .trans _ h _ w (above-second g h i))
+      | inl w ↦ inr (laws .trans _ h _ w (above-second a laws g h i))
       | inr q′ ↦ elim (new-grade settled o _ _ s) [
         | inl w ↦ inr (laws .trans _ i _ w (laws .right (a .join g h) i))
         | inr s′ ↦ inl (Offers.three r p′ q′ s′)
@@ -69,7 +56,7 @@ module _ {G : Type 0} (a : Algebra G) (laws : Laws a) (base : Base G) where
       -- grades only get worse
       before : Kept settled → (z : Statement) (m : G) → In (settled ++ (x, g) ∷ []) (z, m) → No-worse a m g
       before K z m at = elim (new-or-old settled (x, g) (z, m) at) [
-        | inl e ↦ no-worse-same m g (sym (ap (λ (v : Statement × G). v .1) e))
+        | inl e ↦ no-worse-same a laws m g (sym (ap (λ (v : Statement × G). v .1) e))
         | inr old ↦ K .no-better-left z x m g old (next .offered) (next .unsettled)
       ]
 
@@ -102,24 +89,24 @@ module _ {G : Type 0} (a : Algebra G) (laws : Laws a) (base : Base G) where
     ]
 
     beaten : {x : Statement} {d : G} → Derives a base x d → Beaten settled x d
-    beaten {x} {d} (Derives.leaf l) = by-offer x d d (Offers.leaf l) (no-worse-same d d refl)
+    beaten {x} {d} (Derives.leaf l) = by-offer x d d (Offers.leaf l) (no-worse-itself a laws d)
     beaten {x} {d} (Derives.one r p) = elim (beaten p) [ inl m ↦ by-offer x (m .0) d (Offers.one r (m .1)) (m .2) | inr all ↦ inr all ]
     beaten {x} (Derives.two {g} {h} r p q) = elim (beaten p) [
       | inr all ↦ inr (λ y m at. laws .trans m g _ (all y m at) (laws .left g h))
       | inl m ↦ elim (beaten q) [
         | inr all ↦ inr (λ y n at. laws .trans n h _ (all y n at) (laws .right g h))
-        | inl n ↦ by-offer x _ _ (Offers.two r (m .1) (n .1)) (joins (m .0) g (n .0) h (m .2) (n .2))
+        | inl n ↦ by-offer x _ _ (Offers.two r (m .1) (n .1)) (joins a laws (m .0) g (n .0) h (m .2) (n .2))
       ]
     ]
     beaten {x} (Derives.three {g} {h} {i} r p q s) = elim (beaten p) [
-      | inr all ↦ inr (λ y m at. laws .trans m g _ (all y m at) (above-first g h i))
+      | inr all ↦ inr (λ y m at. laws .trans m g _ (all y m at) (above-first a laws g h i))
       | inl l ↦ elim (beaten q) [
-        | inr all ↦ inr (λ y m at. laws .trans m h _ (all y m at) (above-second g h i))
+        | inr all ↦ inr (λ y m at. laws .trans m h _ (all y m at) (above-second a laws g h i))
         | inl m ↦ elim (beaten s) [
           | inr all ↦ inr (λ y n at. laws .trans n i _ (all y n at) (laws .right (a .join g h) i))
           | inl n ↦
               by-offer x _ _ (Offers.three r (l .1) (m .1) (n .1))
-              (joins _ _ _ _ (joins (l .0) g (m .0) h (l .2) (m .2)) (n .2))
+              (joins a laws _ _ _ _ (joins a laws (l .0) g (m .0) h (l .2) (m .2)) (n .2))
         ]
       ]
     ]

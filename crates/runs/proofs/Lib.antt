@@ -1,5 +1,17 @@
+pub mod Grades
+pub mod Lists
 pub mod Distinct
 pub mod Offers
 pub mod Best
 pub mod OneRun
+pub mod Told
+pub mod Waiting
+pub mod First
+pub mod Steps
+pub mod Modelled
+pub mod LetterLaws
+pub mod Bare
+pub mod Graded
+pub mod Clash
+pub mod Detour
 pub mod Cases

@@ -1,16 +1,17 @@
 -- What a run has settled, and what it offers as more is settled.
-use mathlib.Core.Path.{_≡_, refl, sym, ap, subst, _∙_}
+use mathlib.Core.Path.{_≡_, sym, ap, subst, _∙_}
 use mathlib.Core.List.{List, [], _∷_, _++_, map, map-append}
 use mathlib.Core.Logic.{_⊎_, inl, inr}
 use Rattle.standpoint.specs.declared.statement.Statement.{Statement}
 use Rattle.standpoint.specs.Lists.{In, Distinct}
 use Rattle.standpoint.specs.Algebra.{Algebra}
 use Rattle.standpoint.specs.Derivations.{Base, Derives}
-use Rattle.standpoint.proofs.Listing.{in-left, in-right, in-either}
+use Rattle.standpoint.proofs.Listing.{in-left, in-either}
 use Rattle.standpoint.proofs.Orders.{same?}
-use Rattle.runs.specs.Runs.{Settled, Unsettled, Offers, Next, Run, All-settled}
+use Rattle.runs.specs.Runs.{Settled, Unsettled, Offers, Run, All-settled}
 use Rattle.runs.specs.Runs.Run.{fresh, settles}
-use Rattle.runs.proofs.Distinct.{distinct-none, distinct-push, of-map}
+use Rattle.runs.proofs.Lists.{of-map}
+use Rattle.runs.proofs.Distinct.{Apart, apart-push, apart-distinct}
 
 -- one more at the end: what is there is the new one, or was there before
 pub new-or-old : {X : Type 0} (xs : List X) (o x : X) → In (xs ++ o ∷ []) x → (o ≡ x) ⊎ In xs x
@@ -82,10 +83,13 @@ module _ {G : Type 0} (a : Algebra G) (base : Base G) where
       all _ _ (Offers.three r (derived-settled all p .1) (derived-settled all q .1) (derived-settled all s .1))
 
   -- no statement is settled twice, so none at two grades
+  pub apart-run : {settled : Settled G} → Run a base settled → Apart (statements settled)
+  apart-run fresh = tt
+  apart-run (settles {settled} {x} {g} run next) =
+      subst Apart (sym (map-append _ settled ((x, g) ∷ []))) (apart-push (statements settled) x (apart-run run) (none-of settled x (next .unsettled)))
+
   pub distinct-run : {settled : Settled G} → Run a base settled → Distinct (statements settled)
-  distinct-run fresh = distinct-none
-  distinct-run (settles {settled} {x} {g} run next) =
-      subst Distinct (sym (map-append _ settled ((x, g) ∷ []))) (distinct-push (statements settled) x (distinct-run run) (none-of settled x (next .unsettled)))
+  distinct-run {settled} run = apart-distinct (statements settled) (apart-run run)
 
   pub settled-once : {settled : Settled G} → Run a base settled → (x : Statement) (g h : G) → In settled (x, g) → In settled (x, h) → g ≡ h
   settled-once fresh x g h m n = elim m [ ]

@@ -24,7 +24,7 @@ use Rattle.runs.specs.declared.Stand.{Stand}
 use Rattle.runs.specs.declared.Stand.the-variants.{Open, Ended, Full}
 use Rattle.runs.specs.Runs.{Settled}
 
--- whether x stands before y
+-- one place of the order of statements, and the whole order, as tests
 unfoldable pub smaller-or : ℕ → ℕ → Bool → Bool
 smaller-or m n rest = ltb m n || (eqb m n && rest)
 
@@ -33,7 +33,7 @@ before x y =
     smaller-or (x .shape) (y .shape) (smaller-or (x .first) (y .first) (smaller-or (x .second) (y .second)
     (smaller-or (x .third) (y .third) (smaller-or (x .fourth) (y .fourth) (ltb (x .fifth) (y .fifth))))))
 
--- whether a statement fits the sizes
+-- whether a number is below the size of its sort, and whether a statement fits the sizes
 abbrev pub within : Sizes → Sort → ℕ → Bool
 within n Standpoint k = ltb k (n .standpoints)
 within n Concept k = ltb k (n .concepts)
@@ -62,14 +62,34 @@ rules-of count = kept-by (λ rule. eqb (arity-of rule) count) (counting 1 23)
 abbrev pub third-shape : ℕ → ℕ
 third-shape rule = cond (eqb rule 3) 2 (cond (eqb rule 14) 8 (cond (eqb rule 15) 9 7))
 
+module _ {G : Type 0} where
+  -- a conclusion, if there is one, at a grade
+  abbrev pub graded : G → Option Statement → Settled G
+  graded g None = []
+  graded g (Some x) = (x, g) ∷ []
+
+  -- whether x is settled
+  abbrev pub is-settled : Settled G → Statement → Bool
+  is-settled [] x = false
+  is-settled (p ∷ ps) x = same (p .0) x || is-settled ps x
+
+  -- what waits besides x
+  abbrev pub without : Statement → Settled G → Settled G
+  without x ps = kept-by (λ p. not (same (p .0) x)) ps
+
+  -- whether what is settled and what waits outnumber the rows
+  abbrev pub full : ℕ → Settled G → Settled G → Bool
+  full rows settled waiting = ltb rows (length settled + length waiting)
+
+  -- how the run stands
+  abbrev pub stand : ℕ → Settled G → Settled G → Stand
+  stand rows settled [] = cond (full rows settled []) Full Ended
+  stand rows settled (o ∷ os) = cond (full rows settled (o ∷ os)) Full Open
+
 module _ {G : Type 0} (a : Algebra G) where
   -- the leaves: what is accepted and fits, and the tautologies
   abbrev pub leaves : Base G → Settled G
   leaves base = kept-by (λ o. fits (base .sizes) (o .0)) (base .accepted) ++ map (λ x. (x, a .start)) (tautologies (base .sizes))
-
-  abbrev pub graded : G → Option Statement → Settled G
-  graded g None = []
-  graded g (Some x) = (x, g) ∷ []
 
   -- what the rules with one, two and three premises give from premises of given lists
   abbrev pub by-one : ℕ → Settled G → Settled G
@@ -99,10 +119,6 @@ module _ {G : Type 0} (a : Algebra G) where
   take-in o [] = o ∷ []
   take-in o (p ∷ ps) = cond (same (p .0) (o .0)) (cond (a .no-worse (p .1) (o .1)) p o ∷ ps) (p ∷ take-in o ps)
 
-  abbrev pub is-settled : Settled G → Statement → Bool
-  is-settled [] x = false
-  is-settled (p ∷ ps) x = same (p .0) x || is-settled ps x
-
   -- all offers for unsettled statements are taken in
   abbrev pub gather : Settled G → Settled G → Settled G → Settled G
   gather settled [] waiting = waiting
@@ -116,16 +132,6 @@ module _ {G : Type 0} (a : Algebra G) where
   abbrev pub first-of : Statement × G → Settled G → Statement × G
   first-of o [] = o
   first-of o (p ∷ ps) = first-of (cond (goes-before p o) p o) ps
-
-  abbrev pub without : Statement → Settled G → Settled G
-  without x ps = kept-by (λ p. not (same (p .0) x)) ps
-
-  abbrev pub full : ℕ → Settled G → Settled G → Bool
-  full rows settled waiting = ltb rows (length settled + length waiting)
-
-  abbrev pub stand : ℕ → Settled G → Settled G → Stand
-  stand rows settled [] = cond (full rows settled []) Full Ended
-  stand rows settled (o ∷ os) = cond (full rows settled (o ∷ os)) Full Open
 
   -- settling so many times, unless the run stands ended or full before: what is settled in turn, and how the run then stands
   abbrev pub settle : ℕ → ℕ → ℕ → Settled G → Settled G → Settled G × Stand

@@ -62,12 +62,12 @@ module _ {G : Type 0} (al : Algebra G) (base : Base G) (l : Settled G) (s : Stat
   not-full fits full =
       let xs = full .0 in
       let few = placed-apart (length xs) (s .len) (λ j k. nth xs j ≡ Some (statement-at s k))
-        (λ j lt.
-          let x = nth-some xs j lt in
-          let known = full .2 (x .0) (in-nth xs j (x .0) (x .1)) in
-          let p = h .rows .every (x .0) (known .0) (h .complete (x .0) (known .0) (known .1)) in
-          (p .0, p .1, x .1 ∙ ap Some (sym (p .2))))
-        (λ i j k hi hj a b. full .1 i j (statement-at s k) a b) in
+      (λ j lt.
+      let x = nth-some xs j lt in
+      let known = full .2 (x .0) (in-nth xs j (x .0) (x .1)) in
+      let p = h .rows .every (x .0) (known .0) (h .complete (x .0) (known .0) (known .1)) in
+      (p .0, p .1, x .1 ∙ ap Some (sym (p .2))))
+      (λ i j k hi hj a b. full .1 i j (statement-at s k) a b) in
       let more = full .3 in
       omega arith
 
@@ -77,8 +77,8 @@ module _ {G : Type 0} (al : Algebra G) (base : Base G) (l : Settled G) (s : Stat
       ⊎-elim
       (λ k. (statement-at s (k .0), row-known al base l s h grades-fit (k .0) (k .1), open-unsettled s l (h .lists) al (h .offered) fit (h .rows) (k .0) (k .1) (k .2)))
       (λ none.
-        let few = placed-apart (s .len) (s .settled) (λ i k. turn-at s k ≡ i) (λ i lt. h .lists .back i lt (none i lt)) (λ i j k hi hj a b. sym a ∙ b) in
-        absurd (let z : ⊥ = omega arith in z))
+      let few = placed-apart (s .len) (s .settled) (λ i k. turn-at s k ≡ i) (λ i lt. h .lists .back i lt (none i lt)) (λ i j k hi hj a b. sym a ∙ b) in
+      absurd (let z : ⊥ = omega arith in z))
       (open-or s (s .len))
 
   -- as many turns as rows leave none

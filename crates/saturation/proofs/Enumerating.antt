@@ -48,9 +48,9 @@ module _ {G : Type 0} (al : Algebra G) (v : ℕ) where
 
   -- two attempts, of a rule with two premises
   pub went-pair : (s t u : State G) (rule n i : ℕ) (a b : Bool) → Fit s → a ≡ true →
-    Went al v s t (λ l. Step al v l rule (n ∷ i ∷ [])) (λ l. Step al v l rule (n ∷ i ∷ [])) a →
-    Went al v t u (λ l. Step al v l rule (i ∷ n ∷ [])) (λ l. Step al v l rule (i ∷ n ∷ [])) b →
-    Went al v s u (Pair al v rule n i) (Using n) b
+      Went al v s t (λ l. Step al v l rule (n ∷ i ∷ [])) (λ l. Step al v l rule (n ∷ i ∷ [])) a →
+      Went al v t u (λ l. Step al v l rule (i ∷ n ∷ [])) (λ l. Step al v l rule (i ∷ n ∷ [])) b →
+      Went al v s u (Pair al v rule n i) (Using n) b
   went-pair s t u rule n i a b fit on x y =
       went-then al v s t u (λ l. Step al v l rule (n ∷ i ∷ [])) (λ l. Step al v l rule (i ∷ n ∷ [])) (Using n) a b fit on
       (went-as al v s t _ _ _ (Using n) a (λ l is o w. w) (λ l is o w. step-uses n rule (n ∷ i ∷ []) l o (inl refl) w) x)
@@ -58,13 +58,13 @@ module _ {G : Type 0} (al : Algebra G) (v : ℕ) where
 
   -- one attempt that was refused
   pub went-refused : (s t : State G) (n rule : ℕ) (places : List ℕ) (B : Family G) (r : Bool) → r ≡ false → In places n →
-    Went al v s t (λ l. Step al v l rule places) (λ l. Step al v l rule places) r → Went al v s t B (Using n) false
+      Went al v s t (λ l. Step al v l rule places) (λ l. Step al v l rule places) r → Went al v s t B (Using n) false
   went-refused s t n rule places B r off used x =
       went-false al v s t _ B (Using n) r off (went-as al v s t _ (λ l. Step al v l rule places) _ (Using n) r (λ l is o w. w) (λ l is o w. step-uses n rule places l o used w) x)
 
   -- an attempt that was refused after what went before
   pub went-broken : (s t u : State G) (n rule : ℕ) (places : List ℕ) (A C : Family G) (r : Bool) → Fit s → r ≡ false → In places n →
-    Went al v s t A (Using n) true → Went al v t u (λ l. Step al v l rule places) (λ l. Step al v l rule places) r → Went al v s u C (Using n) false
+      Went al v s t A (Using n) true → Went al v t u (λ l. Step al v l rule places) (λ l. Step al v l rule places) r → Went al v s u C (Using n) false
   went-broken s t u n rule places A C r fit off used x y =
       went-stopped al v s t u A (λ l. Step al v l rule places) C (Using n) true false fit refl refl x (went-refused t u n rule places (λ l. Step al v l rule places) r off used y)
 
@@ -83,23 +83,23 @@ module _ {G : Type 0} (al : Algebra G) (v : ℕ) where
 
   -- one third premise more
   pub went-triple : (s t u : State G) (rule : ℕ) (position : Position) (n i j : ℕ) (r : Bool) → Fit s →
-    Went al v s t (Below (Triple rule position n i) j) (Using n) true →
-    Went al v t u (Triple rule position n i j) (Triple rule position n i j) r →
-    Went al v s u (Below (Triple rule position n i) (j + 1)) (Using n) r
+      Went al v s t (Below (Triple rule position n i) j) (Using n) true →
+      Went al v t u (Triple rule position n i j) (Triple rule position n i j) r →
+      Went al v s u (Below (Triple rule position n i) (j + 1)) (Using n) r
   went-triple s t u rule position n i j r fit x y =
       went-more al v s t u (Triple rule position n i) (Using n) j r fit x
       (went-as al v t u _ (Triple rule position n i j) _ (Using n) r (λ l is o w. w) (λ l is o w. step-uses n rule (arranged position n i j) l o (in-arranged position n i j) w) y)
 
   -- all third premises
   pub went-triples : (s t : State G) (rule : ℕ) (position : Position) (n i m : ℕ) → s .settled ≤ m →
-    Went al v s t (Below (Triple rule position n i) m) (Using n) true →
-    Went al v s t (λ l. Triples al v rule position n i (length l) l) (Using n) true
+      Went al v s t (Below (Triple rule position n i) m) (Using n) true →
+      Went al v s t (λ l. Triples al v rule position n i (length l) l) (Using n) true
   went-triples s t rule position n i m end x =
       went-as al v s t (Below (Triple rule position n i) m) (λ l. Triples al v rule position n i (length l) l) (Using n) (Using n) true
       (λ l is o b. let lg = is .long in let h = b .1 in (b .0, omega arith, b .2)) (λ l is o w. w) x
 
   statements-arranged : (s : State G) (d : G) (position : Position) (n i j : ℕ) →
-    statements-of (premises-in s d (arranged position n i j)) ≡ arranged position (statement-at s (turn-at s n)) (statement-at s (turn-at s i)) (statement-at s (turn-at s j))
+      statements-of (premises-in s d (arranged position n i j)) ≡ arranged position (statement-at s (turn-at s n)) (statement-at s (turn-at s i)) (statement-at s (turn-at s j))
   statements-arranged s d First n i j = refl
   statements-arranged s d Second n i j = refl
   statements-arranged s d Third n i j = refl
@@ -111,9 +111,9 @@ module _ {G : Type 0} (al : Algebra G) (v : ℕ) where
 
   -- where the first two never go together, there is nothing to offer
   pub went-never : (s : State G) (rule : ℕ) (position : Position) (n i : ℕ) (d : G) →
-    ((places : List ℕ) → Settled-places (s .settled) places → (l : List (Statement × G)) → Lists s l → Stand-at l places (premises-in s d places)) →
-    n < s .settled → i < s .settled → Never-goes rule position (statement-at s (turn-at s n)) (statement-at s (turn-at s i)) →
-    Went al v s s (λ l. Triples al v rule position n i (length l) l) (Using n) true
+      ((places : List ℕ) → Settled-places (s .settled) places → (l : List (Statement × G)) → Lists s l → Stand-at l places (premises-in s d places)) →
+      n < s .settled → i < s .settled → Never-goes rule position (statement-at s (turn-at s n)) (statement-at s (turn-at s i)) →
+      Went al v s s (λ l. Triples al v rule position n i (length l) l) (Using n) true
   went-never s rule position n i d stands in-n in-i never = went-none al v s _ (Using n) (λ l is o b.
       let j = b .0 in
       let lg = is .long in
@@ -161,7 +161,7 @@ module _ {G : Type 0} (al : Algebra G) (v : ℕ) where
   around-uses rule n i l o (around-two a) = ⊎-elim (λ w. step-uses n rule (n ∷ i ∷ []) l o (inl refl) w) (λ w. step-uses n rule (i ∷ n ∷ []) l o (inr (inl refl)) w) a
   around-uses rule n i l o (around-three a) =
       let used : (position : Position) → Triples al v rule position n i (length l) l o → Uses al v l n o =
-        λ position b. step-uses n rule (arranged position n i (b .0)) l o (in-arranged position n i (b .0)) (b .2) in
+      λ position b. step-uses n rule (arranged position n i (b .0)) l o (in-arranged position n i (b .0)) (b .2) in
       ⊎-elim (⊎-elim (used First) (used Second)) (used Third) a
 
   -- what the places say of the arity: 1, 2 or 3
@@ -174,7 +174,7 @@ module _ {G : Type 0} (al : Algebra G) (v : ℕ) where
   triples-arity rule n i position l o b = sym (step-long l rule (arranged position n i (b .0)) o (b .2)) ∙ length-arranged position n i (b .0)
 
   around-arity : (rule n i : ℕ) (l : List (Statement × G)) (o : Statement × G) → Around al v rule n i l o →
-    ((arity-of rule ≡ 1) × (i ≡ n) × Step al v l rule (n ∷ []) o) ⊎ (((arity-of rule ≡ 2) × Pair al v rule n i l o) ⊎ ((arity-of rule ≡ 3) × All-triples al v rule n i l o))
+      ((arity-of rule ≡ 1) × (i ≡ n) × Step al v l rule (n ∷ []) o) ⊎ (((arity-of rule ≡ 2) × Pair al v rule n i l o) ⊎ ((arity-of rule ≡ 3) × All-triples al v rule n i l o))
   around-arity rule n i l o (around-one same a) = inl (sym (step-long l rule (n ∷ []) o a), same, a)
   around-arity rule n i l o (around-two a) = inr (inl (⊎-elim (λ w. sym (step-long l rule (n ∷ i ∷ []) o w)) (λ w. sym (step-long l rule (i ∷ n ∷ []) o w)) a, a))
   around-arity rule n i l o (around-three a) =

@@ -16,7 +16,8 @@ use Rattle.standpoint.specs.Derivations.{Base}
 use Rattle.runs.specs.Runs.{Settled, Offers, Known, Next, Run, All-settled, Stands-full}
 use Rattle.runs.specs.Runs.Run.{settles}
 use Rattle.runs.proofs.Offers.{in-offers}
-use Rattle.runs.proofs.Distinct.{distinct-none, distinct-push}
+use Rattle.runs.proofs.Distinct.{apart-push, apart-distinct}
+use Rattle.runs.proofs.Distinct as lists
 use Rattle.saturation.specs.declared.turn.Turn.{Turn}
 use Rattle.saturation.specs.declared.turn.Turn.the-variants as turn
 use Rattle.saturation.specs.Tables.{State, row-at, statement-at, turn-at, Open-at, capacity}
@@ -60,15 +61,15 @@ in-held s (suc n) x m =
     (⊎-elim (λ e. (n, omega arith, e)) (λ z. absurd z))
     (in-append-cases (held s n) (statement-at s n ∷ []) x m)
 
-distinct-held : {G : Type 0} (s : State G) (n : ℕ) → n ≤ s .len → Apart s → Distinct (held s n)
+apart-held : {G : Type 0} (s : State G) (n : ℕ) → n ≤ s .len → Apart s → lists.Apart (held s n)
 unfolding held
-distinct-held s zero h apart = distinct-none
-distinct-held s (suc n) h apart =
-    distinct-push (held s n) (statement-at s n) (distinct-held s n (omega arith) apart) (λ m.
-      let p = in-held s n (statement-at s n) m in
-      let lt = p .1 in
-      let same = apart (p .0) n (omega arith) (omega arith) (p .2) in
-      omega arith)
+apart-held s zero h apart = tt
+apart-held s (suc n) h apart =
+    apart-push (held s n) (statement-at s n) (apart-held s n (omega arith) apart) (λ m.
+    let p = in-held s n (statement-at s n) m in
+    let lt = p .1 in
+    let same = apart (p .0) n (omega arith) (omega arith) (p .2) in
+    omega arith)
 
 module _ {G : Type 0} (al : Algebra G) (base : Base G) (l : Settled G) (s : State G) (h : Holds al base l s) where
   first-next : (o : Statement × G) → First-offered al l (h .offered) o → Next al base l (o .0) (o .1)
@@ -84,8 +85,8 @@ module _ {G : Type 0} (al : Algebra G) (base : Base G) (l : Settled G) (s : Stat
   row-known fits k lt =
       ⊎-elim
       (λ un.
-        let v = value-at (s .grades) k (omega arith) in
-        (getD (s .grades) k (v .0), h .sound (statement-at s k, getD (s .grades) k (v .0)) (h .rows .from k lt un (v .0))))
+      let v = value-at (s .grades) k (omega arith) in
+      (getD (s .grades) k (v .0), h .sound (statement-at s k, getD (s .grades) k (v .0)) (h .rows .from k lt un (v .0))))
       (λ closed. let m = closed-settled s l (h .lists) k lt closed in (m .0, in-offers al base (h .run) (statement-at s k) (m .0) (m .1)))
       (equal-or (row-at s k .place) 0)
 
@@ -104,26 +105,27 @@ module _ {G : Type 0} (al : Algebra G) (base : Base G) (l : Settled G) (s : Stat
         let k = it .stuck refl l (h .lists) in
         let x = k .o .0 in
         let known : (j : ℕ) → j < t .len → Known al base (l ++ o ∷ []) (statement-at t j) = λ j lt.
-          ⊎-elim
-          (λ old.
-            let v = row-known grades-fit j old in
-            (v .0, subst (λ (z : Statement). Offers al base (l ++ o ∷ []) z (v .0)) (sym (it .old j old)) (offers-up al base l o (statement-at s j) (v .0) (v .1))))
-          (λ new.
-            let u = it .new l (h .lists) j new lt in
-            (u .0, uses-offers al base l o (statement-at t j, u .0) (u .1)))
-          (below-or j (s .len)) in
+        ⊎-elim
+        (λ old.
+        let v = row-known grades-fit j old in
+        (v .0, subst (λ (z : Statement). Offers al base (l ++ o ∷ []) z (v .0)) (sym (it .old j old)) (offers-up al base l o (statement-at s j) (v .0) (v .1))))
+        (λ new.
+        let u = it .new l (h .lists) j new lt in
+        (u .0, uses-offers al base l o (statement-at t j, u .0) (u .1)))
+        (below-or j (s .len)) in
         let full = k .full in
         let long = length-held t (t .len) in
-        let more = length-append (held t (t .len)) (x ∷ []) in
-        (held t (t .len) ++ x ∷ [],
-        distinct-push (held t (t .len)) x (distinct-held t (t .len) (omega arith) (it .apart (h .rows .apart))) (λ m.
-          let p = in-held t (t .len) x m in k .absent (p .0) (p .1) (p .2)),
-        λ y m.
-          ⊎-elim
-          (λ a. let p = in-held t (t .len) y a in subst (Known al base (l ++ o ∷ [])) (p .2) (known (p .0) (p .1)))
-          (⊎-elim (λ e. subst (Known al base (l ++ o ∷ [])) e (k .o .1, uses-offers al base l o (k .o) (k .may))) (λ z. absurd z))
-          (in-append-cases (held t (t .len)) (x ∷ []) y m),
-        let cap : capacity t ≤ t .len = grind (arith, tells) in omega arith)
+        let more = length-append (held t (t .len)) (x ∷ []) in (
+          held t (t .len) ++ x ∷ [],
+          apart-distinct (held t (t .len) ++ x ∷ []) (apart-push (held t (t .len)) x (apart-held t (t .len) (omega arith) (it .apart (h .rows .apart))) (λ m.
+              let p = in-held t (t .len) x m in k .absent (p .0) (p .1) (p .2))),
+          λ y m.
+              ⊎-elim
+              (λ a. let p = in-held t (t .len) y a in subst (Known al base (l ++ o ∷ [])) (p .2) (known (p .0) (p .1)))
+              (⊎-elim (λ e. subst (Known al base (l ++ o ∷ [])) e (k .o .1, uses-offers al base l o (k .o) (k .may))) (λ z. absurd z))
+              (in-append-cases (held t (t .len)) (x ∷ []) y m),
+          let cap : capacity t ≤ t .len = grind (arith, tells) in omega arith,
+        )
 
     pub went-on : (r : Turn) → Turned al (base .sizes .individuals) s t r → Went-on al base l t r
     went-on turn.Nothing it = (subst (Holds al base l) (sym (it .0)) h, none-open (it .1 l (h .lists)))
@@ -131,24 +133,40 @@ module _ {G : Type 0} (al : Algebra G) (base : Base G) (l : Settled G) (s : Stat
         let o = it .o in
         let f = first-next o (it .next l (h .offered) (h .lists) (h .rows)) in
         let en = it .all refl l (h .lists) in
-        let k = it .keeps base refl l (h .lists) (h .right) (h .explained) in
-        (o .0, (o .1, (f, record {
-          run = settles (h .run) f;
-          lists = it .lists l (h .lists);
-          offered = en .os ++ h .offered;
-          rows = en .best (h .offered) (h .rows);
-          sound = λ v m. ⊎-elim (λ a. uses-offers al base l o v (en .sound v a)) (λ b. offers-up al base l o (v .0) (v .1) (h .sound v b)) (in-append-cases (en .os) (h .offered) v m);
-          complete = λ x g m. ⊎-elim (λ a. in-append-right (en .os) (h .offered) (x, g) (h .complete x g a)) (λ b. in-append-left (en .os) (h .offered) (x, g) (en .complete (x, g) b)) (offers-down al base l o x g m);
-          right = k .0;
-          explained = k .1;
-        })))
+        let k = it .keeps base refl l (h .lists) (h .right) (h .explained) in (
+          o .0,
+          (
+            o .1,
+            (
+              f,
+              record {
+                run = settles (h .run) f;
+                lists = it .lists l (h .lists);
+                offered = en .os ++ h .offered;
+                rows = en .best (h .offered) (h .rows);
+                sound = λ v m. ⊎-elim (λ a. uses-offers al base l o v (en .sound v a)) (λ b. offers-up al base l o (v .0) (v .1) (h .sound v b)) (in-append-cases (en .os) (h .offered) v m);
+                complete = λ x g m. ⊎-elim (λ a. in-append-right (en .os) (h .offered) (x, g) (h .complete x g a)) (λ b. in-append-left (en .os) (h .offered) (x, g) (en .complete (x, g) b)) (offers-down al base l o x g m);
+                right = k .0;
+                explained = k .1;
+              },
+            ),
+          ),
+        )
     went-on turn.Overflowed it =
         let o = it .o in
-        let f = first-next o (it .next l (h .offered) (h .lists) (h .rows)) in
-        (o .0, (o .1, (f, record {
-          run = settles (h .run) f;
-          lists = it .lists l (h .lists);
-          apart = it .apart (h .rows .apart);
-          full = overflowed it;
-          explained = it .keeps base refl l (h .lists) (h .right) (h .explained) .1;
-        })))
+        let f = first-next o (it .next l (h .offered) (h .lists) (h .rows)) in (
+          o .0,
+          (
+            o .1,
+            (
+              f,
+              record {
+                run = settles (h .run) f;
+                lists = it .lists l (h .lists);
+                apart = it .apart (h .rows .apart);
+                full = overflowed it;
+                explained = it .keeps base refl l (h .lists) (h .right) (h .explained) .1;
+              },
+            ),
+          ),
+        )

@@ -25,7 +25,7 @@ use Rattle.saturation.proofs.Offers.{below-or}
 use Rattle.saturation.proofs.Lists.{Fit}
 use Rattle.saturation.proofs.Counting.{not-full, some-open, all-closed}
 
-same-capacity : {G : Type 0} (s t : State G) → length (t .rows) ≡ length (s .rows) → length (t .grades) ≡ length (s .grades) → capacity t ≡ capacity s
+pub same-capacity : {G : Type 0} (s t : State G) → length (t .rows) ≡ length (s .rows) → length (t .grades) ≡ length (s .grades) → capacity t ≡ capacity s
 same-capacity s t e f = cc
 
 gt-leb : (m n : ℕ) → n < m → leb m n ≡ false
@@ -72,15 +72,24 @@ module _ {G : Type 0} (al : Algebra G) (base : Base G) (rows : ℕ) where
       subst (λ (m : ℕ). Settling al base rows m l later) e (stopped-at n 0 l later ext no-more-asked)
 
 pub so-far-none : {G : Type 0} (al : Algebra G) (v : ℕ) (s : State G) → So-far al v s s 0
-so-far-none {G} al v s base e l h = ([], (refl, (subst (λ (z : Settled G). Holds al base z s) (sym (append-nil l)) h, λ m rest go.
-    let from : Settling al base (capacity s) m l rest = subst (λ (z : Settled G). Settling al base (capacity s) m z rest) (append-nil l) go in
-    let same : m ≡ 0 + m = omega arith in
-    subst (λ (n : ℕ). Settling al base (capacity s) n l rest) same from)))
+so-far-none {G} al v s base e l h = (
+  [],
+  (
+    refl,
+    (
+      subst (λ (z : Settled G). Holds al base z s) (sym (append-nil l)) h,
+      λ m rest go.
+          let from : Settling al base (capacity s) m l rest = subst (λ (z : Settled G). Settling al base (capacity s) m z rest) (append-nil l) go in
+          let same : m ≡ 0 + m = omega arith in
+          subst (λ (n : ℕ). Settling al base (capacity s) n l rest) same from,
+    ),
+  ),
+)
 
 module _ {G : Type 0} (al : Algebra G) (v : ℕ) (s t u : State G) (k : ℕ) (far : So-far al v s t k) (cap : capacity t ≡ capacity s) (fits : t .len ≤ capacity t) where
   -- one statement more
   extends-more : (base : Base G) (l later : Settled G) (x : Statement) (g : G) → Holds al base (l ++ later) t → Next al base (l ++ later) x g →
-    Extends al base (capacity s) k l later → Extends al base (capacity s) (k + 1) l (later ++ (x, g) ∷ [])
+      Extends al base (capacity s) k l later → Extends al base (capacity s) (k + 1) l (later ++ (x, g) ∷ [])
   extends-more base l later x g h next ext m rest go =
       let rows = capacity s in
       let o : Statement × G = (x, g) in
@@ -97,10 +106,16 @@ module _ {G : Type 0} (al : Algebra G) (v : ℕ) (s t u : State G) (k : ℕ) (fa
       let f = far base e l h in
       let later = f .0 in
       let w = on base e (l ++ later) (f .1 .1 .0) in
-      let o : Statement × G = (w .0, w .1 .0) in
-      (later ++ o ∷ [], (length-append later (o ∷ []) ∙ ap (λ (n : ℕ). n + 1) (f .1 .0),
-        (subst (λ (z : Settled G). Holds al base z u) (append-assoc l later (o ∷ [])) (w .1 .1 .1),
-        extends-more base l later (w .0) (w .1 .0) (f .1 .1 .0) (w .1 .1 .0) (f .1 .1 .1))))
+      let o : Statement × G = (w .0, w .1 .0) in (
+        later ++ o ∷ [],
+        (
+          length-append later (o ∷ []) ∙ ap (λ (n : ℕ). n + 1) (f .1 .0),
+          (
+            subst (λ (z : Settled G). Holds al base z u) (append-assoc l later (o ∷ [])) (w .1 .1 .1),
+            extends-more base l later (w .0) (w .1 .0) (f .1 .1 .0) (w .1 .1 .0) (f .1 .1 .1),
+          ),
+        ),
+      )
 
   pub so-far-ended : (n : ℕ) → k < n → Goes-on al v t u turn.Nothing → capacity u ≡ capacity t → u .len ≤ capacity u → Settles al v s u n k Ended
   so-far-ended n below on cap-u fits-u base e l h =
@@ -126,7 +141,7 @@ module _ {G : Type 0} (al : Algebra G) (v : ℕ) (s t u : State G) (k : ℕ) (fa
 
 -- all turns taken
 pub so-far-done : {G : Type 0} (al : Algebra G) (v : ℕ) (s t : State G) (n : ℕ) (stand : Stand) → So-far al v s t n → capacity t ≡ capacity s → t .len ≤ capacity t → Fit t → t .len ≤ length (t .grades) →
-  stand ≡ cond (leb (t .len) (t .settled)) Ended Open → Settles al v s t n n stand
+    stand ≡ cond (leb (t .len) (t .settled)) Ended Open → Settles al v s t n n stand
 so-far-done {G} al v s t n stand far cap fits fit grades-fit is base e l h =
     let rows = capacity s in
     let f = far base e l h in
@@ -134,8 +149,8 @@ so-far-done {G} al v s t n stand far cap fits fit grades-fit is base e l h =
     let held = f .1 .1 .0 in
     let not-yet : Stands-full al base rows (l ++ later) → ⊥ = λ full. not-full al base (l ++ later) t held fits (subst (λ (m : ℕ). Stands-full al base m (l ++ later)) (sym cap) full) in
     let found : Stands al base rows (l ++ later) stand × Holds-as al base (l ++ later) t stand =
-      ⊎-elim
-      (λ out. subst (λ (z : Stand). Stands al base rows (l ++ later) z × Holds-as al base (l ++ later) t z) (sym (is ∙ ap (λ (b : Bool). cond b Ended Open) (le-leb _ _ out))) ((not-yet, all-closed al base (l ++ later) t held fit out), held))
-      (λ room. subst (λ (z : Stand). Stands al base rows (l ++ later) z × Holds-as al base (l ++ later) t z) (sym (is ∙ ap (λ (b : Bool). cond b Ended Open) (gt-leb _ _ room))) ((not-yet, some-open al base (l ++ later) t held fit grades-fit room), held))
-      (⊎-elim (λ lt. inr lt) (λ ge. inl ge) (below-or (t .settled) (t .len))) in
+    ⊎-elim
+    (λ out. subst (λ (z : Stand). Stands al base rows (l ++ later) z × Holds-as al base (l ++ later) t z) (sym (is ∙ ap (λ (b : Bool). cond b Ended Open) (le-leb _ _ out))) ((not-yet, all-closed al base (l ++ later) t held fit out), held))
+    (λ room. subst (λ (z : Stand). Stands al base rows (l ++ later) z × Holds-as al base (l ++ later) t z) (sym (is ∙ ap (λ (b : Bool). cond b Ended Open) (gt-leb _ _ room))) ((not-yet, some-open al base (l ++ later) t held fit grades-fit room), held))
+    (⊎-elim (λ lt. inr lt) (λ ge. inl ge) (below-or (t .settled) (t .len))) in
     (later, (f .1 .0, (settled-all al base rows n l later (f .1 .1 .1), found)))

@@ -1,16 +1,16 @@
-mod Offers
-mod Lists
-mod Sameness
-mod Marks
-mod Choosing
-mod Stepping
-mod Reading
-mod Searches
-mod Enumerating
-mod Pigeons
-mod Opening
-mod Settling
-mod Taking
-mod Going
-mod Counting
-mod Lasting
+pub mod Offers
+pub mod Lists
+pub mod Sameness
+pub mod Marks
+pub mod Choosing
+pub mod Stepping
+pub mod Reading
+pub mod Searches
+pub mod Enumerating
+pub mod Pigeons
+pub mod Opening
+pub mod Settling
+pub mod Taking
+pub mod Going
+pub mod Counting
+pub mod Lasting

@@ -114,9 +114,9 @@ module _ {G : Type 0} (s : State G) (l : List (Statement × G)) (is : Lists s l)
       (p .0, p .1, p .2, o, b .best (p .0) (p .1) o (v .1) (in-same off (v .0) (statement-at s (p .0)) (v .1) (v .1) (sym (p .2)) refl m)) in
       let behind : (k : ℕ) → k < s .len → Open-at s k → Ahead al (getD (s .grades) k g) (statement-at s k) g x → ⊥ = λ k h o ahead.
       c .2 k h o (λ d.
-        let e1 : getD (s .grades) k g ≡ getD (s .grades) k d = getD-default (s .grades) k g d (fits k h) in
-        let e2 : g ≡ getD (s .grades) i d = sym (grade d) in
-        subst (λ (w : G). Ahead al (getD (s .grades) k d) (statement-at s k) w x) e2 (subst (λ (w : G). Ahead al w (statement-at s k) g x) e1 ahead)) in
+      let e1 : getD (s .grades) k g ≡ getD (s .grades) k d = getD-default (s .grades) k g d (fits k h) in
+      let e2 : g ≡ getD (s .grades) i d = sym (grade d) in
+      subst (λ (w : G). Ahead al (getD (s .grades) k d) (statement-at s k) w x) e2 (subst (λ (w : G). Ahead al w (statement-at s k) g x) e1 ahead)) in
       let better : (k : ℕ) → k < s .len → Open-at s k → No-worse al g (getD (s .grades) k g) = λ k h o.
       true-or (al .no-worse g (getD (s .grades) k g)) (λ off′. behind k h o (other al laws g (getD (s .grades) k g) off′, λ back. absurd (both-ways _ off′ back))) in
       record {

@@ -38,7 +38,6 @@ module _ {G : Type 0} (al : Algebra G) (laws : Laws al) (v : ℕ) (s m t : State
     (rows-fit : s .len ≤ length (s .rows)) (grades-fit : s .len ≤ length (s .grades)) (room : s .settled < s .len)
     (chosen : Chosen al s (s .len) (Some i)) (is : m ≡ settled-row s i)
     (went : Went al v m t (λ l. Uses al v l (s .settled)) (λ l. Uses al v l (s .settled)) b) where
-
   within : i < s .len
   within = chosen .0
 
@@ -57,9 +56,9 @@ module _ {G : Type 0} (al : Algebra G) (laws : Laws al) (v : ℕ) (s m t : State
       let o : Statement × G = (statement-at s i, g .0) in
       let same-len = len-m in
       let listed : (l : List (Statement × G)) → Lists s l → Lists m (l ++ o ∷ []) =
-        λ l old. subst (λ (z : State G). Lists z (l ++ o ∷ [])) (sym is) (settled-lists s i within rows-fit room l (g .0) (chosen .1) (g .1) old) in
+      λ l old. subst (λ (z : State G). Lists z (l ++ o ∷ [])) (sym is) (settled-lists s i within rows-fit room l (g .0) (chosen .1) (g .1) old) in
       let kept : (off : List (Statement × G)) → Best-of al s off → Best-of al m off =
-        λ off best. subst (λ (z : State G). Best-of al z off) (sym is) (settled-best s i within rows-fit room al off best) in
+      λ off best. subst (λ (z : State G). Best-of al z off) (sym is) (settled-best s i within rows-fit room al off best) in
       record {
         o = o;
         long = went .grown .settled ∙ ap (λ (z : State G). z .settled) is;

@@ -56,4 +56,4 @@ abbrev pub Settles : {G : Type 0} → Algebra G → ℕ → State G → State G 
 Settles {G} a individuals s t n count stand =
     (base : Base G) → base .sizes .individuals ≡ individuals → (settled : Settled G) → Holds a base settled s →
     (later : Settled G) × ((length later ≡ count) × (Settling a base (capacity s) n settled later
-      × (Stands a base (capacity s) (settled ++ later) stand × Holds-as a base (settled ++ later) t stand)))
+    × (Stands a base (capacity s) (settled ++ later) stand × Holds-as a base (settled ++ later) t stand)))

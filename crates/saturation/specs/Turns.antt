@@ -38,10 +38,10 @@ pub record Took-turn {G : Type 0} (a : Algebra G) (individuals : ℕ) (s t : Sta
   pub old : (k : ℕ) → k < s .len → statement-at t k ≡ statement-at s k
   pub new : (settled : List (Statement × G)) → Lists s settled → New-from s t (Uses a individuals (settled ++ o ∷ []) (length settled))
   pub all : r ≡ true → (settled : List (Statement × G)) → Lists s settled →
-    Enumerated a s t (Uses a individuals (settled ++ o ∷ []) (length settled)) (Uses a individuals (settled ++ o ∷ []) (length settled))
+      Enumerated a s t (Uses a individuals (settled ++ o ∷ []) (length settled)) (Uses a individuals (settled ++ o ∷ []) (length settled))
   pub stuck : r ≡ false → (settled : List (Statement × G)) → Lists s settled → Stuck t (Uses a individuals (settled ++ o ∷ []) (length settled))
   pub keeps : (base : Base G) → base .sizes .individuals ≡ individuals → (settled : List (Statement × G)) → Lists s settled →
-    Rows-right a base settled s → Explained a base settled s → Rows-right a base (settled ++ o ∷ []) t × Explained a base (settled ++ o ∷ []) t
+      Rows-right a base settled s → Explained a base settled s → Rows-right a base (settled ++ o ∷ []) t × Explained a base (settled ++ o ∷ []) t
 
 -- nothing was left to settle, or one was settled, its consequences all offered or not
 abbrev pub Turned : {G : Type 0} → Algebra G → ℕ → State G → State G → Turn → Type 0

@@ -58,6 +58,12 @@ impl<'a, G: Copy> Table<'a, G> {
     {
         let grades: &[G] = self.grades;
         let rows: &[Row] = self.rows;
-        comes_first(kind, grades[i], rows[i].statement, grades[j], rows[j].statement)
+        comes_first(
+            kind,
+            grades[i],
+            rows[i].statement,
+            grades[j],
+            rows[j].statement,
+        )
     }
 }

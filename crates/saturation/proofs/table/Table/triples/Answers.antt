@@ -62,7 +62,7 @@ loop-j-again g c =
     let m = view (c .loop-j .self) in
     let here = subst (λ (ks : List ℕ). Went al v m u (λ l. Step al v l (c .args .rule) ks) (λ l. Step al v l (c .args .rule) ks) (c .attempt .result)) (c .arrange .ensures) (c .attempt .ensures .state) in
     let made = subst (λ (b : Bool). Went al v (view t) u (Below (Triple al v (c .args .rule) (c .args .position) n (c .args .i)) (c .loop-j .j + 1)) (Using al v n) b) (c .if-not-attempt .left)
-      (went-triple al v (view t) m u (c .args .rule) (c .args .position) n (c .args .i) (c .loop-j .j) (c .attempt .result) (t .«settled_fit», t .turns) (inv .1) here) in
+    (went-triple al v (view t) m u (c .args .rule) (c .args .position) n (c .args .i) (c .loop-j .j) (c .attempt .result) (t .«settled_fit», t .turns) (inv .1) here) in
     (same-then (inv .0) one, made)
 
 pub returns : need.returns

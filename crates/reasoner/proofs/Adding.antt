@@ -1,0 +1,1 @@
+-- One statement more is accepted.

@@ -1,0 +1,3 @@
+pub mod Models
+pub mod Calls
+pub mod Filling
