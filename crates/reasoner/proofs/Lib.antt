@@ -1,2 +1,3 @@
 pub mod Fillings
 pub mod Adding
+pub mod Sealing

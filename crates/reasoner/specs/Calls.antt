@@ -56,6 +56,11 @@ Adds {G} a x g s t (Err e) =
     Unchanged s t × Add-refused s x e
     × ((b : Base G) → Stands-for a (based b) s → e ≡ RowsTaken → (Known a b [] x → ⊥) × All-rows-taken a b (capacity (view s)))
 
+abbrev pub is-full : Stand → Bool
+is-full Open = false
+is-full Ended = false
+is-full Full = true
+
 -- a run after a settle
 abbrev pub after : {G : Type 0} → Base G → Settled G → Stand → Model G
 after b l Open = running b l

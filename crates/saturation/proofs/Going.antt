@@ -43,16 +43,16 @@ closed-settled {G} s l is i h closed =
     (getD l k d .1, in-same l (getD l k d .0) (statement-at s i) (getD l k d .1) (getD l k d .1) e refl (in-getD l k d (omega arith)))
 
 -- the statements of the first n rows
-held : {G : Type 0} → State G → ℕ → List Statement
+pub held : {G : Type 0} → State G → ℕ → List Statement
 held s zero = []
 held s (suc n) = held s n ++ statement-at s n ∷ []
 
-length-held : {G : Type 0} (s : State G) (n : ℕ) → length (held s n) ≡ n
+pub length-held : {G : Type 0} (s : State G) (n : ℕ) → length (held s n) ≡ n
 unfolding held
 length-held s zero = refl
 length-held s (suc n) = let e = length-held s n in let f = length-append (held s n) (statement-at s n ∷ []) in omega arith
 
-in-held : {G : Type 0} (s : State G) (n : ℕ) (x : Statement) → In (held s n) x → (k : ℕ) × (k < n) × (statement-at s k ≡ x)
+pub in-held : {G : Type 0} (s : State G) (n : ℕ) (x : Statement) → In (held s n) x → (k : ℕ) × (k < n) × (statement-at s k ≡ x)
 unfolding held
 in-held s zero x m = absurd m
 in-held s (suc n) x m =
@@ -61,7 +61,7 @@ in-held s (suc n) x m =
     (⊎-elim (λ e. (n, omega arith, e)) (λ z. absurd z))
     (in-append-cases (held s n) (statement-at s n ∷ []) x m)
 
-apart-held : {G : Type 0} (s : State G) (n : ℕ) → n ≤ s .len → Apart s → lists.Apart (held s n)
+pub apart-held : {G : Type 0} (s : State G) (n : ℕ) → n ≤ s .len → Apart s → lists.Apart (held s n)
 unfolding held
 apart-held s zero h apart = tt
 apart-held s (suc n) h apart =
