@@ -1,9 +1,11 @@
 // Single rows: looking for one, taking one, changing one.
 ghost use mathlib.Core.Bool.{cond, false};
 ghost use mathlib.Core.Path.{_≡_};
-ghost use Prim.Native.Nat.{ℕ, _+_, _<_};
+ghost use Prim.Native.Nat.{ℕ, _+_, _<_, _≤_};
 ghost use lib.ListN.{getD};
+ghost use Rattle.std.specs.Options.{Cases as BySome};
 ghost use Rattle.saturation.specs.Tables.{view, Same, Found, has-room, pushed, improved, statement-at, turn-at, row-at};
+ghost use Rattle.saturation.specs.Searching.{Premise};
 use crate::row::Kept;
 use crate::row::Row;
 use crate::table::Table;
@@ -59,6 +61,16 @@ impl<'a, G: Copy> Table<'a, G> {
             mark: row.mark,
         };
         self.grades[i] = grade;
+    }
+
+    // The k-th settled statement with its grade, from 0; none past the last.
+    pub fn settled_at(&self, k: usize) -> Option<(Statement, G)>
+        ensures { λ r. ⌜ BySome r (now (self .entry) .settled ≤ k) (λ p. (k < now (self .entry) .settled) × Premise (view (now (self .entry))) k p) ⌝ }
+    {
+        if k >= self.settled {
+            return None;
+        }
+        Some((self.settled_statement(k), self.settled_grade(k)))
     }
 
     // The k-th settled statement.

@@ -3,9 +3,11 @@ ghost use Rattle.settled_text.specs.Text.{refused-text, Written};
 ghost use Rattle.blockfile.specs.Faults.{report-of};
 use blockfile::LoadFault;
 use line::Line;
+pub use settled::settled_line;
 use standpoint::Refusal;
 
 mod line;
+mod settled;
 mod writing;
 
 // Writes the line of a stopped load and answers its length with the line feed; refuses a buffer that is too short.

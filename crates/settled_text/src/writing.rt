@@ -47,6 +47,15 @@ impl Line {
         self.digits(n);
     }
 
+    pub(crate) fn blank_number(&mut self, n: u32)
+        requires { ⌜ now self .len + 11 ≤ 80 ⌝ }
+        ensures text { λ _. ⌜ text (now (self .exit)) ≡ text (now (self .entry)) ++ (32 ∷ decimal n) ⌝ }
+        ensures bound { λ _. ⌜ now (self .exit) .len ≤ now (self .entry) .len + 11 ⌝ }
+    {
+        self.push(b' ');
+        self.number(n);
+    }
+
     pub(crate) fn part(&mut self, bytes: &[u8])
         requires { ⌜ now self .len + length (now bytes) ≤ 80 ⌝ }
         ensures text { λ _. ⌜ text (now (self .exit)) ≡ text (now (self .entry)) ++ now (bytes .entry) ⌝ }
