@@ -17,9 +17,10 @@ use Rattle.standpoint.specs.Derivations.{Base}
 use Rattle.saturation.specs.declared.table.Table.{Table}
 use Rattle.saturation.specs.Tables.{State, view, has-room, Absent, Over-same}
 use Rattle.saturation.specs.Saturation.{Holds}
-use Rattle.reasoner.specs.Models.{based, accepting, Stands-for}
-use Rattle.reasoner.specs.Calls.{Unchanged, Add-refused, before-begin, after-settle, misfit, individual, no-row}
+use Rattle.reasoner.specs.Models.{based, empty-base, accepting, Stands-for}
+use Rattle.reasoner.specs.Calls.{Unchanged, Adds, Add-refused, before-begin, after-settle, misfit, individual, no-row}
 use Rattle.blockfile.specs.declared.fault.RecordFault.{RecordFault}
+use Rattle.blockfile.specs.declared.fault.RecordFault.the-variants.{Add}
 use Rattle.blockfile.specs.declared.fault.BlockFault.{BlockFault}
 use Rattle.blockfile.specs.declared.fault.BlockFault.the-variants.{Sum, Layout, Begin, InRecord}
 use Rattle.blockfile.specs.declared.fault.LoadFault.{LoadFault}
@@ -45,7 +46,7 @@ module _ {G : Type 0} where
   accepting-last base (r ∷ rs) x g = accepting-last (accepting base (r .0) (r .1)) rs x g
 
   -- a code that is decoded is that of a grade
-  pub decoded-ok : (o : Option G) (r : Result G Refusal) (g : G) → r ≡ or-no-grade o → r ≡ Ok g → o ≡ Some g
+  decoded-ok : (o : Option G) (r : Result G Refusal) (g : G) → r ≡ or-no-grade o → r ≡ Ok g → o ≡ Some g
   decoded-ok None r g e k = let z : Ok g ≡ Err _ = sym k ∙ e in grind arith
   decoded-ok (Some h) r g e k = let z : Ok g ≡ Ok h = sym k ∙ e in grind arith
 
@@ -64,15 +65,27 @@ module _ {G : Type 0} where
     pub accepts-same : (b p : ℕ) (s t : Table G) → Unchanged s t → Accepts-before al decoded file b p s → Accepts-before al decoded file b p t
     accepts-same b p s t u h = (h .0, h .1, stands-same (accepting-all (sizes-in file) (h .0)) s t u (h .2))
 
+    -- what add makes of the record whose code n, grade g and statement x are read
+    module _ (b p n : ℕ) (r : Result G Refusal) (g : G) (x : Statement) (s t : Table G) where
+      module _ (code : n ≡ code-of file b p) (read : r ≡ or-no-grade (decoded n)) (right : r ≡ Ok g) (is : x ≡ statement-in file b p) where
+        graded : decoded (code-of file b p) ≡ Some g
+        graded = decoded-ok (decoded (code-of file b p)) r g (read ∙ ap (λ m. or-no-grade (decoded m)) code) right
+
+        pub record-accepted : Adds al x g s t (Ok tt) → Record-loaded al decoded file b p s t (Ok tt)
+        record-accepted h = (g, graded, subst (λ (y : Statement). Adds al y g s t (Ok tt)) is h .4)
+
+        pub record-refused : (why : Refusal) → Adds al x g s t (Err why) → Record-loaded al decoded file b p s t (Err (Add b p why))
+        record-refused why h = (h .0, refl, refl, (g, graded, refused-same s t (statement-in file b p) why (h .0) (subst (λ (y : Statement). Add-refused s y why) is (h .1))))
+
     -- one record more is accepted
-    pub accepts-more : (b p : ℕ) (s t : Table G) (g : G) → p < count-in file b → decoded (code-of file b p) ≡ Some g →
-        ((base : Base G) → Stands-for al (based base) s → Stands-for al (based (accepting base (statement-in file b p) g)) t) →
-        Accepts-before al decoded file b p s → Accepts-before al decoded file b (p + 1) t
-    accepts-more b p s t g lt is on h = (
-      h .0 ++ (statement-in file b p, g) ∷ [],
-      reads-record (h .1) lt is,
-      subst (λ (base : Base G). Stands-for al (based base) t) (sym (accepting-last _ (h .0) (statement-in file b p) g)) (on _ (h .2)),
-    )
+    pub accepts-more : (b p : ℕ) (s t : Table G) → p < count-in file b → Record-loaded al decoded file b p s t (Ok tt) → Accepts-before al decoded file b p s → Accepts-before al decoded file b (p + 1) t
+    accepts-more b p s t lt loaded h =
+        let x = statement-in file b p in
+        let g = loaded .0 in (
+          h .0 ++ (x, g) ∷ [],
+          reads-record (h .1) lt (loaded .1),
+          subst (λ (base : Base G). Stands-for al (based base) t) (sym (accepting-last (empty-base (sizes-in file)) (h .0) x g)) (loaded .2 _ (h .2)),
+        )
 
     -- the records of a block are those before the next one
     pub accepts-block : (b p : ℕ) (t : Table G) → p ≡ count-in file b → Accepts-before al decoded file b p t → Accepts-before al decoded file (b + 1) 0 t

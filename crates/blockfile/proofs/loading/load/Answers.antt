@@ -1,9 +1,9 @@
 use mathlib.Core.Path.{_≡_, refl, subst}
 use mathlib.Core.List.{[]}
-use Prim.Native.Nat.{ℕ, _≤_}
+use Prim.Native.Nat.{ℕ}
 use native.Mathlib.Omega.{arith}
-use Rattle.std.specs.declared.result.Result.the-variants.{Ok, Err}
 use Rattle.std.proofs.shelf.Results.{err-from-errBy}
+use Rattle.blockfile.specs.declared.fault.LoadFault.{LoadFault}
 use Rattle.blockfile.specs.declared.fault.LoadFault.the-variants.{InBlock}
 use Rattle.blockfile.specs.Layout.{Whole, Sound-below}
 use Rattle.blockfile.specs.Loads.{Accepts-before, reads-none}
@@ -21,7 +21,7 @@ returns-in-Break-begin-sized g c =
     let t = c .begin-sized .last .reasoner in
     let fault = c .in-Break-begin-sized .field-0 .0 in
     let r = c .from-residual-in-Break-begin-sized .result in
-    let p = err-from-errBy r (c .from-residual-in-Break-begin-sized .ensures .1) in
+    let p = err-from-errBy {Q = λ (y : LoadFault). y ≡ InBlock fault} r (c .from-residual-in-Break-begin-sized .ensures .1) in
     let sound = subst (λ (b : ℕ). Whole file n × Sound-below b file n) (c .file-byte .ensures) (c .in-Continue-blocks .ensures tt) in
     record {
       memory = c .begin-sized .ensures .memory;
@@ -30,7 +30,6 @@ returns-in-Break-begin-sized g c =
 
 pub loop-block-holds : need.loop-block-holds
 loop-block-holds g c =
-    let n = c .in-Continue-blocks .blocks in
     let most = c .in-Continue-blocks .ensures tt .0 .some in
     ((refl, refl), omega arith, most, ([], reads-none, c .in-Continue-begin-sized .ensures tt .answer))
 
@@ -56,7 +55,7 @@ returns-in-Break-load-block g c =
     let t = c .load-block .last .reasoner in
     let fault = c .in-Break-load-block .field-0 .0 in
     let r = c .from-residual-in-Break-load-block .result in
-    let p = err-from-errBy r (c .from-residual-in-Break-load-block .ensures .1) in
+    let p = err-from-errBy {Q = λ (y : LoadFault). y ≡ InBlock fault} r (c .from-residual-in-Break-load-block .ensures .1) in
     let sound = subst (λ (b : ℕ). Whole file n × Sound-below b file n) (c .file-byte .ensures) (c .in-Continue-blocks .ensures tt) in
     record {
       memory = over-then s begun t (c .begin-sized .ensures .memory) (over-then begun (c .loop-block .reasoner) t (c .loop-block .inv .0) (c .load-block .ensures .memory));

@@ -1,7 +1,9 @@
-use mathlib.Core.Path.{_≡_, _∙_}
+use mathlib.Core.Path.{_≡_}
 use Prim.Native.Nat.{_<_}
 use native.Mathlib.Omega.{arith}
 use Rattle.std.proofs.shelf.Results.{err-from-errBy}
+use Rattle.blockfile.specs.declared.fault.BlockFault.{BlockFault}
+use Rattle.blockfile.specs.declared.fault.BlockFault.the-variants.{InRecord}
 use Rattle.blockfile.specs.Layout.{count-in}
 use Rattle.blockfile.proofs.Accepting.{over-then, accepts-more, accepts-block, record-stops, block-stopped}
 use Rattle.blockfile.proofs.loading.load_block.Needs as need
@@ -18,7 +20,7 @@ loop-place-again g c =
     let loaded = c .in-Continue-load-record .ensures tt .answer in (
       over-then (c .args .reasoner .now) s t (inv .0) (c .load-record .ensures .memory),
       omega arith,
-      accepts-more al (g .K·StoredKind .decoded) file block (c .loop-place .place) s t (loaded .0) here (loaded .1) (loaded .2) (inv .2),
+      accepts-more al (g .K·StoredKind .decoded) file block (c .loop-place .place) s t here (c .in-Continue-load-record .ensures tt .answer) (inv .2),
     )
 
 pub returns-in-Break-load-record : need.returns-in-Break-load-record
@@ -32,7 +34,7 @@ returns-in-Break-load-record g c =
     let inv = c .loop-place .inv in
     let fault = c .in-Break-load-record .field-0 .0 in
     let r = c .from-residual .result in
-    let p = err-from-errBy r (c .from-residual .ensures .1) in
+    let p = err-from-errBy {Q = λ (y : BlockFault). y ≡ InRecord fault} r (c .from-residual .ensures .1) in
     let here : c .loop-place .place < count-in file block = let a = c .loop-place-test .taken in let b = c .from-count .ensures in let d = c .count .ensures in omega arith in
     record {
       memory = over-then (c .args .reasoner .now) s t (inv .0) (c .load-record .ensures .memory);
