@@ -15,8 +15,7 @@ use Rattle.standpoint.specs.declared.statement.Statement.{Statement}
 use Rattle.standpoint.specs.Algebra.{Algebra}
 use Rattle.standpoint.specs.Derivations.{Base}
 use Rattle.saturation.specs.declared.table.Table.{Table}
-use Rattle.saturation.specs.Tables.{State, view, has-room, Absent, Over-same}
-use Rattle.saturation.specs.Saturation.{Holds}
+use Rattle.saturation.specs.Tables.{State, has-room, Absent, Over-same}
 use Rattle.reasoner.specs.Models.{based, empty-base, accepting, Stands-for}
 use Rattle.reasoner.specs.Calls.{Unchanged, Adds, Add-refused, before-begin, after-settle, misfit, individual, no-row}
 use Rattle.blockfile.specs.declared.fault.RecordFault.{RecordFault}
