@@ -1,3 +1,4 @@
+mod Accepting
 mod Coded
 mod Parts
 mod Unsound

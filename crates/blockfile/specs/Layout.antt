@@ -5,6 +5,7 @@ use Prim.Native.Nat.{ℕ, zero, suc, _+_, _*_, _<_, _≤_}
 use lib.ListN.{take, drop, getD, length}
 use lib.Chars.{codes}
 use Rattle.standpoint.specs.declared.sizes.Sizes.{Sizes}
+use Rattle.standpoint.specs.declared.statement.Statement.{Statement}
 use Rattle.standpoint.specs.Sizes.{In-range}
 
 -- block b of a file, 512 bytes
@@ -88,6 +89,17 @@ record-of file b r = take 12 (drop (512 * b + 8 + 12 * r) file)
 -- the code of record r of block b
 abbrev pub code-of : List ℕ → ℕ → ℕ → ℕ
 code-of file b r = big4 file (512 * b + 14 + 12 * r)
+
+-- the statement of record r of block b: its shape and five numbers of a byte each
+abbrev pub statement-in : List ℕ → ℕ → ℕ → Statement
+statement-in file b r = record {
+  shape = getD file (512 * b + 8 + 12 * r) 0;
+  first = getD file (512 * b + 9 + 12 * r) 0;
+  second = getD file (512 * b + 10 + 12 * r) 0;
+  third = getD file (512 * b + 11 + 12 * r) 0;
+  fourth = getD file (512 * b + 12 + 12 * r) 0;
+  fifth = getD file (512 * b + 13 + 12 * r) 0;
+}
 
 -- the sizes that block 0 states
 abbrev pub sizes-in : List ℕ → Sizes

@@ -1,4 +1,4 @@
-// Block files: how statements and grades are stored, and whether a file is sound.
+// Block files: how statements and grades are stored, whether a file is sound, and its load into a reasoner.
 pub use check::check_file;
 pub use fault::BlockFault;
 pub use fault::BlockFromRecord;
@@ -7,6 +7,7 @@ pub use fault::Layer;
 pub use fault::LoadFault;
 pub use fault::LoadFromBlock;
 pub use fault::RecordFault;
+pub use loading::load;
 pub use stored::LetterStored;
 pub use stored::OddsStored;
 pub use stored::StoredKind;
@@ -16,6 +17,7 @@ pub use stored::TallyStored;
 mod check;
 mod fault;
 mod layout;
+mod loading;
 mod reader;
 mod stored;
 mod sum;

@@ -3,9 +3,10 @@ ghost use mathlib.Core.Path.{_≡_};
 ghost use Prim.Native.Nat.{_+_, _*_, _≤_};
 ghost use denote.Ref.{now};
 ghost use lib.ListN.{length, getD};
-ghost use Rattle.blockfile.specs.Layout.{block-of, record-of, code-of, count-in, sizes-in};
+ghost use Rattle.blockfile.specs.Layout.{block-of, record-of, code-of, count-in, statement-in, sizes-in};
 use crate::sum::big_endian;
 use standpoint::Sizes;
+use standpoint::Statement;
 
 // Stands at a block of the lent file and at a record in it, and yields what is there without a copy.
 #[derive(Clone, Copy)]
@@ -41,6 +42,21 @@ impl<'a> Reader<'a> {
     {
         let from = 512 * usize::from(self.block) + 8 + 12 * usize::from(self.place);
         &self.file[from..from + 12]
+    }
+
+    // The statement of the record.
+    pub fn statement(&self) -> Statement
+        ensures { λ r. ⌜ r ≡ statement-in (now (now (self .entry) .file)) (now (self .entry) .block) (now (self .entry) .place) ⌝ }
+    {
+        let from = 512 * usize::from(self.block) + 12 * usize::from(self.place);
+        Statement {
+            shape: self.file[from + 8],
+            first: u16::from(self.file[from + 9]),
+            second: u16::from(self.file[from + 10]),
+            third: u16::from(self.file[from + 11]),
+            fourth: u16::from(self.file[from + 12]),
+            fifth: u16::from(self.file[from + 13]),
+        }
     }
 
     // The code of the record's grade.
