@@ -6,7 +6,9 @@ use Prim.Native.Nat.{ℕ, _<_, _≤_}
 use native.Mathlib.Omega.{arith}
 use lib.ListN.{length, getD}
 use Rattle.std.specs.Iters.{counting}
+use Rattle.std.specs.Vec.{made}
 use Rattle.std.specs.declared.result.Result.{Result}
+use Rattle.std.specs.declared.result.Result.the-variants.{Ok, Err}
 use Rattle.std.proofs.shelf.Lists.{getD-append-left, getD-map, getD-at, getD-past, length-map, length-push}
 use Rattle.std.proofs.shelf.Counted.{length-map-counting, getD-map-counting}
 use Rattle.standpoint.specs.declared.refusal.Refusal.{Refusal}
@@ -78,3 +80,8 @@ module _ {G : Type 0} (coded : G → ℕ) (t : Table G) (k : ℕ) where
       let printed : (l : List (Statement × G)) → Reads (view t) l → Printed (t .phase .begun) (line-text coded l (stand-of t) k) before after r =
       λ l is. rw (begun, line l is) written in
       (λ d. printed _ (rows-read (view t) d), λ l lists. printed l (run-reads (view t) l lists))
+
+-- what is written lies within the buffer
+pub written-within : (bytes before later : List ℕ) (r : Result ℕ Refusal) → Written bytes before later r → made r (λ n. n ≤ length before)
+written-within bytes before later (Ok n) w = let e = w .0 in let h = w .1 in omega arith
+written-within bytes before later (Err e) w = tt

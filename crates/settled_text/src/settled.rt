@@ -2,6 +2,7 @@
 ghost use mathlib.Core.Path.{_≡_};
 ghost use Prim.Native.Nat.{_≤_};
 ghost use lib.ListN.{length};
+ghost use Rattle.std.specs.Vec.{made};
 ghost use Rattle.settled_text.specs.Text.{statement-text, stand-word, stand-text, stand-of, Written, Rows-line, Run-line};
 use crate::line::Line;
 use blockfile::StoredKind;
@@ -18,6 +19,7 @@ pub fn settled_line<K: StoredKind>(
 ) -> Result<usize, Refusal>
     ensures rows { λ r. ⌜ Rows-line (K·StoredKind .coded) (now (reasoner .entry)) k (now (buffer .entry)) (now (buffer .exit)) r ⌝ }
     ensures run { λ r. ⌜ Run-line (K·StoredKind .coded) (now (reasoner .entry)) k (now (buffer .entry)) (now (buffer .exit)) r ⌝ }
+    ensures within { λ r. ⌜ made r (λ n. n ≤ length (now (buffer .entry))) ⌝ }
 {
     if !reasoner.phase.begun {
         return Err(Refusal::NotBegun);
