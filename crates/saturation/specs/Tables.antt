@@ -68,10 +68,13 @@ Absent s x = (k : ℕ) → k < s .len → statement-at s k ≡ x → ⊥
 abbrev pub Present : {G : Type 0} → State G → Statement → Type 0
 Present s x = (k : ℕ) × (k < s .len) × (statement-at s k ≡ x)
 
--- what a look for a statement answers
+-- what a look for a statement among the first rows answers
+abbrev pub Row-of : List Row → ℕ → Statement → Option ℕ → Type 0
+Row-of rows len x None = (k : ℕ) → k < len → getD rows k no-row .statement ≡ x → ⊥
+Row-of rows len x (Some i) = (i < len) × (getD rows i no-row .statement ≡ x)
+
 abbrev pub Found : {G : Type 0} → State G → Statement → Option ℕ → Type 0
-Found s x None = Absent s x
-Found s x (Some i) = (i < s .len) × (statement-at s i ≡ x)
+Found s x r = Row-of (s .rows) (s .len) x r
 
 -- one row and its grade more
 abbrev pub pushed : {G : Type 0} → State G → Row → G → State G

@@ -2,7 +2,8 @@
 ghost use Prim.Native.Nat.{_+_, _<_};
 ghost use Rattle.standpoint.specs.Lists.{Tells};
 ghost use Rattle.saturation.specs.Tables.{view};
-ghost use Rattle.saturation.specs.Choosing.{Ahead, Row-ahead, Chosen};
+ghost use lib.ListN.{length};
+ghost use Rattle.saturation.specs.Choosing.{Ahead, Rows-ahead, Row-ahead, Chosen};
 use crate::row::Row;
 use crate::table::Table;
 use standpoint::Kind;
@@ -19,6 +20,20 @@ fn comes_first<K: Kind>(kind: &K, g: K::Grade, x: Statement, h: K::Grade, y: Sta
         return true;
     }
     x.before(y)
+}
+
+// Whether row i is settled before row j.
+fn row_first<K: Kind>(kind: &K, rows: &[Row], grades: &[K::Grade], i: usize, j: usize) -> bool
+    requires { ⌜ (i < length (now rows)) × (j < length (now rows)) × (i < length (now grades)) × (j < length (now grades)) ⌝ }
+    ensures { λ r. ⌜ Tells r (Rows-ahead (K·Kind .algebra (now (kind .entry))) (now (rows .entry)) (now (grades .entry)) i j) ⌝ }
+{
+    comes_first(
+        kind,
+        grades[i],
+        rows[i].statement,
+        grades[j],
+        rows[j].statement,
+    )
 }
 
 impl<'a, G: Copy> Table<'a, G> {

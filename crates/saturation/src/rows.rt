@@ -2,9 +2,9 @@
 ghost use mathlib.Core.Bool.{cond, false};
 ghost use mathlib.Core.Path.{_≡_};
 ghost use Prim.Native.Nat.{ℕ, _+_, _<_, _≤_};
-ghost use lib.ListN.{getD};
+ghost use lib.ListN.{length, getD};
 ghost use Rattle.std.specs.Options.{Cases as BySome};
-ghost use Rattle.saturation.specs.Tables.{view, Same, Found, has-room, pushed, improved, statement-at, turn-at, row-at};
+ghost use Rattle.saturation.specs.Tables.{view, Same, Row-of, Found, has-room, pushed, improved, statement-at, turn-at, row-at};
 ghost use Rattle.saturation.specs.Searching.{Premise};
 use crate::row::Kept;
 use crate::row::Row;
@@ -20,13 +20,7 @@ impl<'a, G: Copy> Table<'a, G> {
     pub fn find(&self, statement: Statement) -> Option<usize>
         ensures { λ r. ⌜ Found (view (now (self .entry))) statement r ⌝ }
     {
-        for i in 0..self.len {
-            let held = self.rows[i].statement;
-            if held == statement {
-                return Some(i);
-            }
-        }
-        None
+        row_of(self.rows, self.len, statement)
     }
 
     // Takes one more row, if there is one.
@@ -91,4 +85,18 @@ impl<'a, G: Copy> Table<'a, G> {
         let at = self.rows[k].turn;
         grades[at]
     }
+}
+
+// The first of so many rows that holds the statement, or none.
+fn row_of(rows: &[Row], len: usize, statement: Statement) -> Option<usize>
+    requires { ⌜ len ≤ length (now rows) ⌝ }
+    ensures { λ r. ⌜ Row-of (now (rows .entry)) len statement r ⌝ }
+{
+    for i in 0..len {
+        let held = rows[i].statement;
+        if held == statement {
+            return Some(i);
+        }
+    }
+    None
 }
