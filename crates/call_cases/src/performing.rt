@@ -17,7 +17,7 @@ use standpoint::Surcharge;
 use standpoint::Tally;
 use std::alloc::Global;
 
-pub fn perform_case(heap: Global, case: &Case<'_>, score: &mut Score) -> Result<(), Fault> {
+pub(crate) fn perform_case(heap: Global, case: &Case<'_>, score: &mut Score) -> Result<(), Fault> {
     let kind = case.kind.ok_or(Fault::NoKind)?;
     let surcharges = kind.surcharges;
     match kind.base {

@@ -29,7 +29,7 @@ pub struct Play<K: StoredKind + Drop> {
 }
 
 impl<K: StoredKind + Drop> Play<K> {
-    pub fn new(heap: Global, kind: K) -> Play<K> {
+    pub(crate) fn new(heap: Global, kind: K) -> Play<K> {
         Play {
             kind,
             sizes: Sizes {
@@ -43,7 +43,7 @@ impl<K: StoredKind + Drop> Play<K> {
         }
     }
 
-    pub fn perform(&mut self, call: Call) -> Result<Outcome, Fault> {
+    pub(crate) fn perform(&mut self, call: Call) -> Result<Outcome, Fault> {
         Ok(
             match call {
                 Call::Check(sizes) => self.check(sizes),
@@ -106,6 +106,6 @@ impl<K: StoredKind + Drop> Play<K> {
 }
 
 // The grade of a code.
-pub fn grade<K: StoredKind>(code: u32) -> Result<K::Grade, Fault> {
+pub(crate) fn grade<K: StoredKind>(code: u32) -> Result<K::Grade, Fault> {
     K::decode(code).ok().ok_or(Fault::NoGrade(code))
 }

@@ -25,7 +25,7 @@ enum Said<'a> {
 }
 
 // All cases of the text; refuses the first line that has no meaning.
-pub fn read_cases(heap: Global, text: &str) -> Result<Vec<Case<'_>>, Fault> {
+pub(crate) fn read_cases(heap: Global, text: &str) -> Result<Vec<Case<'_>>, Fault> {
     let mut cases = Vec::new(heap);
     for (index, line) in text.lines().enumerate() {
         let number = index.saturating_add(1);

@@ -22,7 +22,7 @@ pub struct Difference {
 }
 
 impl Score {
-    pub fn new() -> Score {
+    pub(crate) fn new() -> Score {
         Score {
             agree: 0,
             answers: 0,
@@ -32,7 +32,7 @@ impl Score {
     }
 
     // Counts what came of a line of the case.
-    pub fn count(
+    pub(crate) fn count(
         &mut self,
         heap: Global,
         case: u32,

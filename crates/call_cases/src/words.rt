@@ -14,24 +14,24 @@ pub struct Words<'a> {
 }
 
 impl<'a> Words<'a> {
-    pub fn new(text: &'a str) -> Words<'a> {
+    pub(crate) fn new(text: &'a str) -> Words<'a> {
         Words {
             rest: text.split_whitespace(),
         }
     }
 
-    pub fn word(&mut self) -> Option<&'a str> {
+    pub(crate) fn word(&mut self) -> Option<&'a str> {
         self.rest.next()
     }
 
-    pub fn number<N: FromStr>(&mut self) -> Option<N>
+    pub(crate) fn number<N: FromStr>(&mut self) -> Option<N>
     where
         N::Err: Drop,
     {
         self.word()?.parse::<N>().ok()
     }
 
-    pub fn sizes(&mut self) -> Option<Sizes> {
+    pub(crate) fn sizes(&mut self) -> Option<Sizes> {
         Some(Sizes {
             standpoints: self.number()?,
             concepts: self.number()?,
@@ -40,7 +40,7 @@ impl<'a> Words<'a> {
         })
     }
 
-    pub fn statement(&mut self) -> Option<Statement> {
+    pub(crate) fn statement(&mut self) -> Option<Statement> {
         Some(Statement {
             shape: self.number()?,
             first: self.number()?,
@@ -51,7 +51,7 @@ impl<'a> Words<'a> {
         })
     }
 
-    pub fn step(&mut self) -> Option<Step<u32>> {
+    pub(crate) fn step(&mut self) -> Option<Step<u32>> {
         Some(Step {
             rule: self.number()?,
             first: self.number()?,
@@ -62,7 +62,7 @@ impl<'a> Words<'a> {
         })
     }
 
-    pub fn kind_name(&mut self) -> Option<KindName> {
+    pub(crate) fn kind_name(&mut self) -> Option<KindName> {
         let mut surcharges = Surcharges::Zero;
         for _ in 0..3 {
             match self.word()? {
