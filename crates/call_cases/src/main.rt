@@ -1,4 +1,6 @@
-// Performs recorded calls and compares the answers with the recorded ones.
+//! Performs recorded calls and compares the answers with the recorded ones.
+#![tactic(auto)]
+
 use fault::Fault;
 use performing::perform_case;
 use reading::read_cases;

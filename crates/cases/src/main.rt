@@ -1,4 +1,6 @@
-// Compares what the library makes of each recorded file with the recorded print.
+//! Compares what the library makes of each recorded file with the recorded print.
+#![tactic(auto)]
+
 use blockfile::{LoadFault, StoredKind, load};
 use reasoner::settle;
 use saturation::{Kept, Row, Table};

@@ -1,4 +1,6 @@
-// Lists of calls, performed one after the other.
+//! Lists of calls, performed one after the other.
+#![tactic(auto)]
+
 pub use call::{Call, Done};
 pub use replaying::replay;
 

@@ -1,4 +1,6 @@
-// How a run settles statements, and the laws that every run keeps.
+//! How a run settles statements, and the laws that every run keeps.
+#![tactic(auto)]
+
 ghost use Rattle.runs.specs.Laws.{ModelSettles, NoneIsExact, OneRun, OneSettling, OneStand, SettledIsBest};
 
 use standpoint::Kind;

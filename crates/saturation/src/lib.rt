@@ -1,4 +1,6 @@
-// Saturation: a table over lent memory that settles statements, best grade first.
+//! Saturation: a table over lent memory that settles statements, best grade first.
+#![tactic(auto)]
+
 pub use row::{Kept, Row};
 pub use search::{Places, Position};
 pub use table::{Phase, Table};

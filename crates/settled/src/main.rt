@@ -1,4 +1,6 @@
-// Reads a block file from standard input and prints what was settled, or why it was refused.
+//! Reads a block file from standard input and prints what was settled, or why it was refused.
+#![tactic(auto)]
+
 use blockfile::{LoadFault, StoredKind, load};
 use reasoner::settle;
 use saturation::{Kept, Row, Table};

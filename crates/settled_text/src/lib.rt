@@ -1,4 +1,6 @@
-// The lines that `settled` prints, made in lent buffers.
+//! The lines that `settled` prints, made in lent buffers.
+#![tactic(auto)]
+
 ghost use Rattle.settled_text.specs.Text.{refused_text, Written};
 ghost use Rattle.blockfile.specs.Faults.{report_of};
 

@@ -1,4 +1,6 @@
-// Standpoint EL+ with graded statements: what a third party needs to verify a verdict.
+//! Standpoint EL+ with graded statements: what a third party needs to verify a verdict.
+#![tactic(auto)]
+
 pub use kinds::{Kind, Letter, LetterGrade, Odds, OddsGrade, Surcharge, Tally, TallyGrade};
 pub use premises::{Beside, Premises};
 pub use refusal::Refusal;

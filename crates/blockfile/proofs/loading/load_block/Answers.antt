@@ -12,31 +12,31 @@ loop-place-preserved g c =
     let file = c.args.file.now in
     let block = c.args.block in
     let s = c.loop-place.reasoner in
-    let t = c.load-record.new.reasoner in
+    let t = c.load_record.new.reasoner in
     let inv = c.loop-place.invariant in
     let here : c.loop-place.place < count_in file block = let a = c.loop-place-test.true in let b = c.from-count.ensures in let d = c.count.ensures in omega arith in
-    let loaded = c.in-ok-load-record.ensures.answer in (
-      over_then c.args.reasoner.now s t inv.0 c.load-record.ensures.memory,
+    let loaded = c.in_ok-load_record.ensures.answer in (
+      over_then c.args.reasoner.now s t inv.0 c.load_record.ensures.memory,
       omega arith,
-      accepts_more al g.K.StoredKind.decoded file block c.loop-place.place s t here c.in-ok-load-record.ensures.answer inv.2,
+      accepts_more al g.K.StoredKind.decoded file block c.loop-place.place s t here c.in_ok-load_record.ensures.answer inv.2,
     )
 
-pub returns-in-err-load-record : goal.returns-in-err-load-record
-returns-in-err-load-record g c =
+pub returns-in_err-load_record : goal.returns-in_err-load_record
+returns-in_err-load_record g c =
     let al = g.K.Kind.algebra c.args.kind.now in
     let decoded = g.K.StoredKind.decoded in
     let file = c.args.file.now in
     let block = c.args.block in
     let s = c.loop-place.reasoner in
-    let t = c.load-record.new.reasoner in
+    let t = c.load_record.new.reasoner in
     let inv = c.loop-place.invariant in
-    let fault = c.in-err-load-record.field-0.0 in
-    let r = c.from-residual.result in
-    let p = err_from_is_err_and {Q = λ (y : BlockFault). y ≡ InRecord fault} r c.from-residual.ensures.1 in
+    let fault = c.in_err-load_record.field-0.0 in
+    let r = c.from_residual.result in
+    let p = err_from_is_err_and {Q = λ (y : BlockFault). y ≡ InRecord fault} r c.from_residual.ensures.1 in
     let here : c.loop-place.place < count_in file block = let a = c.loop-place-test.true in let b = c.from-count.ensures in let d = c.count.ensures in omega arith in
     record {
-      memory = over_then c.args.reasoner.now s t inv.0 c.load-record.ensures.memory;
-      answer = block_stopped al decoded file block t r p.0 fault p.1 p.2 (record_stops al decoded file block c.loop-place.place s t fault here inv.2 c.in-err-load-record.ensures.answer);
+      memory = over_then c.args.reasoner.now s t inv.0 c.load_record.ensures.memory;
+      answer = block_stopped al decoded file block t r p.0 fault p.1 p.2 (record_stops al decoded file block c.loop-place.place s t fault here inv.2 c.in_err-load_record.ensures.answer);
     }
 
 pub returns : goal.returns

@@ -9,4 +9,4 @@ pub returns-then-not-fits : goal.returns-then-not-fits
 returns-then-not-fits g c = misfit c.if-not-reasoner.false c.if-not-fits.ensures
 
 pub returns : goal.returns
-returns g c = finds c.args.reasoner.now c.args.statement c.first-settled.result c.ok-or.result c.ok-or.ensures.value (record { begun = c.if-not-reasoner.false; fits = c.if-not-fits.ensures }) c.first-settled.ensures
+returns g c = finds c.args.reasoner.now c.args.statement c.first_settled.result c.ok_or.result c.ok_or.ensures.value (record { begun = c.if-not-reasoner.false; fits = c.if-not-fits.ensures }) c.first_settled.ensures

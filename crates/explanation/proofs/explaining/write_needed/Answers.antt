@@ -5,44 +5,44 @@ use Rattle.explanation.proofs.Marking.{marks_rest_earlier}
 use Rattle.explanation.proofs.Answering.{refuses_later, refuses_short, writes_all}
 use Rattle.explanation.proofs.explaining.write_needed.Goals as goal
 
-pub returns-in-err-mark-needed : goal.returns-in-err-mark-needed
-returns-in-err-mark-needed g c =
-    let p = err_from_is_err_and c.from-residual.result c.from-residual.ensures.1 in
-    let late = c.in-err-mark-needed.ensures.state in
+pub returns-in_err-mark_needed : goal.returns-in_err-mark_needed
+returns-in_err-mark_needed g c =
+    let p = err_from_is_err_and c.from_residual.result c.from_residual.ensures.1 in
+    let late = c.in_err-mark_needed.ensures.state in
     record {
-      same = c.mark-needed.ensures.same;
+      same = c.mark_needed.ensures.same;
       state = late.1;
-      answer = refuses_later (view c.args.reasoner.now) c.args.t _ _ c.from-residual.result p.0 p.1 (p.2 ∙ late.0) (search rules) late.2;
+      answer = refuses_later (view c.args.reasoner.now) c.args.t _ _ c.from_residual.result p.0 p.1 (p.2 ∙ late.0) (search rules) late.2;
     }
 
-pub returns-then-count-marked-buffer : goal.returns-then-count-marked-buffer
-returns-then-count-marked-buffer g c =
-    let p = c.in-ok-mark-needed.ensures.state in
-    let e = c.count-marked.ensures in
-    let lt = c.if-count-marked-buffer.true in
+pub returns-then-count_marked-buffer : goal.returns-then-count_marked-buffer
+returns-then-count_marked-buffer g c =
+    let p = c.in_ok-mark_needed.ensures.state in
+    let e = c.count_marked.ensures in
+    let lt = c.if-count_marked-buffer.true in
     record {
-      same = c.mark-needed.ensures.same;
+      same = c.mark_needed.ensures.same;
       state = p.but_marks;
-      answer = (search rules, refuses_short (view c.args.reasoner.now) (view c.mark-needed.new.reasoner) c.args.t p _ (omega arith));
+      answer = (search rules, refuses_short (view c.args.reasoner.now) (view c.mark_needed.new.reasoner) c.args.t p _ (omega arith));
     }
 
-pub write-marked-requires : goal.write-marked-requires
-write-marked-requires g c =
-    let p = c.in-ok-mark-needed.ensures.state in
-    let e = c.count-marked.ensures in
-    let le = c.if-count-marked-buffer.false in
+pub write_marked-requires : goal.write_marked-requires
+write_marked-requires g c =
+    let p = c.in_ok-mark_needed.ensures.state in
+    let e = c.count_marked.ensures in
+    let le = c.if-count_marked-buffer.false in
     let st = p.but_marks.settled in
     let h = c.requires.0 in
-    (omega arith, omega arith, marks_rest_earlier (view c.args.reasoner.now) (view c.mark-needed.new.reasoner) c.args.t p)
+    (omega arith, omega arith, marks_rest_earlier (view c.args.reasoner.now) (view c.mark_needed.new.reasoner) c.args.t p)
 
 pub returns : goal.returns
 returns g c =
-    let p = c.in-ok-mark-needed.ensures.state in
-    let e = c.count-marked.ensures in
-    let f = c.write-marked.ensures.count in
-    let le = c.if-count-marked-buffer.false in
+    let p = c.in_ok-mark_needed.ensures.state in
+    let e = c.count_marked.ensures in
+    let f = c.write_marked.ensures.count in
+    let le = c.if-count_marked-buffer.false in
     record {
-      same = c.mark-needed.ensures.same;
+      same = c.mark_needed.ensures.same;
       state = p.but_marks;
-      answer = writes_all (view c.args.reasoner.now) (view c.mark-needed.new.reasoner) c.args.t p _ _ c.write-marked.result f (omega arith) c.write-marked.ensures.steps;
+      answer = writes_all (view c.args.reasoner.now) (view c.mark_needed.new.reasoner) c.args.t p _ _ c.write_marked.result f (omega arith) c.write_marked.ensures.steps;
     }

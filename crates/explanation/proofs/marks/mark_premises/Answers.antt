@@ -5,32 +5,32 @@ use Rattle.saturation.proofs.Sameness.{same_then}
 use Rattle.explanation.proofs.Marking.{place_within, adds_three}
 use Rattle.explanation.proofs.marks.mark_premises.Goals as goal
 
-pub mark-place-requires : goal.mark-place-requires
-mark-place-requires g c =
-    (place_within (view c.args.reasoner.now) c.args.k c.kept-step-kept.result.first c.args.reasoner.now.settled c.kept-step-kept.result c.kept-step-kept.ensures c.requires.2 c.requires.0 (inl refl), c.requires.1)
+pub mark_place-requires : goal.mark_place-requires
+mark_place-requires g c =
+    (place_within (view c.args.reasoner.now) c.args.k c.kept_step-kept.result.first c.args.reasoner.now.settled c.kept_step-kept.result c.kept_step-kept.ensures c.requires.2 c.requires.0 (inl refl), c.requires.1)
 
-pub mark-place-requires-2 : goal.mark-place-requires-2
-mark-place-requires-2 g c =
-    let h = place_within (view c.args.reasoner.now) c.args.k c.kept-step-kept.result.second c.args.reasoner.now.settled c.kept-step-kept.result c.kept-step-kept.ensures c.requires.2 c.requires.0 (inr (inl refl)) in
-    let one = c.mark-place.ensures in
+pub mark_place-requires-2 : goal.mark_place-requires-2
+mark_place-requires-2 g c =
+    let h = place_within (view c.args.reasoner.now) c.args.k c.kept_step-kept.result.second c.args.reasoner.now.settled c.kept_step-kept.result c.kept_step-kept.ensures c.requires.2 c.requires.0 (inr (inl refl)) in
+    let one = c.mark_place.ensures in
     let e = one.state.but_marks.settled in
     (omega arith, ap (λ (p : Phase). p.begun) one.same.2 ∙ c.requires.1)
 
-pub mark-place-requires-3 : goal.mark-place-requires-3
-mark-place-requires-3 g c =
-    let h = place_within (view c.args.reasoner.now) c.args.k c.kept-step-kept.result.third c.args.reasoner.now.settled c.kept-step-kept.result c.kept-step-kept.ensures c.requires.2 c.requires.0 (inr (inr refl)) in
-    let one = c.mark-place.ensures in
-    let two = c.mark-place-2.ensures in
+pub mark_place-requires-3 : goal.mark_place-requires-3
+mark_place-requires-3 g c =
+    let h = place_within (view c.args.reasoner.now) c.args.k c.kept_step-kept.result.third c.args.reasoner.now.settled c.kept_step-kept.result c.kept_step-kept.ensures c.requires.2 c.requires.0 (inr (inr refl)) in
+    let one = c.mark_place.ensures in
+    let two = c.mark_place-2.ensures in
     let e = one.state.but_marks.settled in
     let f = two.state.but_marks.settled in
     (omega arith, ap (λ (p : Phase). p.begun) (two.same.2 ∙ one.same.2) ∙ c.requires.1)
 
 pub returns : goal.returns
 returns g c =
-    let one = c.mark-place.ensures in
-    let two = c.mark-place-2.ensures in
-    let three = c.mark-place-3.ensures in
+    let one = c.mark_place.ensures in
+    let two = c.mark_place-2.ensures in
+    let three = c.mark_place-3.ensures in
     record {
       same = same_then one.same (same_then two.same three.same);
-      state = adds_three (view c.args.reasoner.now) (view c.mark-place.new.reasoner) (view c.mark-place-2.new.reasoner) (view c.mark-place-3.new.reasoner) c.args.k c.kept-step-kept.result c.kept-step-kept.ensures one.state two.state three.state;
+      state = adds_three (view c.args.reasoner.now) (view c.mark_place.new.reasoner) (view c.mark_place-2.new.reasoner) (view c.mark_place-3.new.reasoner) c.args.k c.kept_step-kept.result c.kept_step-kept.ensures one.state two.state three.state;
     }

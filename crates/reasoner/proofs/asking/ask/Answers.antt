@@ -19,5 +19,5 @@ pub returns-in-None : goal.returns-in-None
 returns-in-None g c = (
   c.if-not-reasoner.false,
   c.if-not-fits.ensures,
-  λ a laws b l h. said_without a b c.args.reasoner.now laws h c.args.statement c.in-None.ensures c.without-grade.result c.without-grade.ensures,
+  λ a laws b l h. said_without a b c.args.reasoner.now laws h c.args.statement c.in-None.ensures c.without_grade.result c.without_grade.ensures,
 )

@@ -8,7 +8,7 @@ use Rattle.saturation.proofs.Sameness.{same_then}
 use Rattle.reasoner.specs.Filling.{Filled}
 use Rattle.reasoner.proofs.Fillings.{filled_none, filled_skip, filled_holds}
 use Rattle.reasoner.proofs.calls.begin.Goals as goal
-use Rattle.reasoner.proofs.calls.begin.Goals.{in-Some, in-default}
+use Rattle.reasoner.proofs.calls.begin.Goals.{in-Some, in_default}
 
 pub loop-k-init : goal.loop-k-init
 loop-k-init g c =
@@ -32,9 +32,9 @@ loop-k-preserved g c =
       | in-Some w ↦
           let at : slice_get (tautologies n) k ≡ Some w.in-Some.x = sym w.in-Some.ensures in
           let room : k < capacity (view c.loop-k.reasoner) = let a = inv.1 in let b = cap0 in omega arith in
-          subst P (sym w.reasoner-is) (same_then inv.0 w.take-tautology.ensures.same, w.take-tautology.ensures.long ∙ inv.1, w.take-tautology.ensures.taken n k at room inv.2)
-      | in-default w ↦
-          let none : slice_get (tautologies n) k ≡ None = sym w.in-default.ensures in
+          subst P (sym w.reasoner-is) (same_then inv.0 w.take_tautology.ensures.same, w.take_tautology.ensures.long ∙ inv.1, w.take_tautology.ensures.taken n k at room inv.2)
+      | in_default w ↦
+          let none : slice_get (tautologies n) k ≡ None = sym w.in_default.ensures in
           subst P (sym w.reasoner-is) (inv.0, inv.1, filled_skip al n (view c.loop-k.reasoner) k inv.2 none)
     ]
 
@@ -44,10 +44,10 @@ returns g c =
     let n = c.args.sizes in
     let inv = c.loop-k.invariant in
     let begun = c.restart.ensures in
-    let long = c.tautology-count-count.ensures.long in
+    let long = c.tautology_count-count.ensures.long in
     let all : length (tautologies n) ≤ c.loop-k.k = let a = c.loop-k-test.false in omega arith in
     let enough : length (tautologies n) ≤ capacity (view c.args.reasoner.now) = let a = c.if-capacity-count.false in let b = c.capacity.ensures in omega arith in
-    let ranged = c.in-ok-check.ensures in
+    let ranged = c.in_ok-check.ensures in
     record {
       memory = (inv.0.0 ∙ begun.memory.0, inv.0.1 ∙ begun.memory.1);
       long = inv.1 ∙ ap capacity begun.state;

@@ -15,7 +15,7 @@ returns g c =
     let one = c.seal.ensures.memory in
     let two = c.settle-count.ensures.same in
     let three = c.seal-2.ensures.memory in
-    let last = c.seal-2.ensures.phase ∙ ap (sealed_phase u.phase) c.stands-full.ensures in
+    let last = c.seal-2.ensures.phase ∙ ap (sealed_phase u.phase) c.stands_full.ensures in
     let on = settled_on al c.args.n c.settle-count.result.0 c.settle-count.result.1 s t u v c.seal.ensures.state c.seal.ensures.phase two c.settle-count.ensures.run c.seal-2.ensures.state last in
     record {
       memory = (three.0 ∙ two.0 ∙ one.0, three.1 ∙ two.1 ∙ one.1);

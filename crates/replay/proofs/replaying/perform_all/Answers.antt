@@ -12,25 +12,25 @@ pub overflow-add-written : goal.overflow-add-written
 overflow-add-written g c =
     let w = c.loop-i.written in
     let steps = c.loop-i.steps in
-    let few = steps_fit (g.K.Kind.algebra c.args.kind.now) c.index-calls-i.result c.perform-behind-outcome.result c.loop-i.reasoner c.perform-behind-outcome.new.reasoner (drop w steps) (drop w c.perform-behind-outcome.new.steps) c.perform-behind-outcome.ensures.done in
+    let few = steps_fit (g.K.Kind.algebra c.args.kind.now) c.index-calls-i.result c.perform_behind-outcome.result c.loop-i.reasoner c.perform_behind-outcome.new.reasoner (drop w steps) (drop w c.perform_behind-outcome.new.steps) c.perform_behind-outcome.ensures.done in
     let left = length-drop w steps in
     let within = c.loop-i.invariant.2 in
-    let count = c.steps-of-written.ensures in
-    let sum : w + c.steps-of-written.result ≤ length steps = omega arith in
+    let count = c.steps_of-written.ensures in
+    let sum : w + c.steps_of-written.result ≤ length steps = omega arith in
     search rules
 
 pub loop-i-preserved : goal.loop-i-preserved
 loop-i-preserved g c =
     let inv = c.loop-i.invariant in
-    let made = c.perform-behind-outcome.ensures in
+    let made = c.perform_behind-outcome.ensures in
     let calls = c.args.calls.now in
     let i = c.loop-i.i in
     let below : i < length calls = omega arith in
     let room : i < length c.loop-i.outcomes = omega arith in
     let call = c.index-calls-i.is ∙ get_or_default calls i _ (Settle 0) below in
-    let turn = next_performed (g.K.Kind.algebra c.args.kind.now) calls c.args.reasoner.now c.args.steps.now c.loop-i.outcomes i c.perform-behind-outcome.result room
-    c.args.outcomes.now c.put.new.places c.loop-i.reasoner c.perform-behind-outcome.new.reasoner c.loop-i.steps c.perform-behind-outcome.new.steps c.index-calls-i.result
-    c.loop-i.written c.steps-of-written.result c.put.ensures c.steps-of-written.ensures call inv.1 inv.2 c.perform-behind-outcome.auto.steps inv.3 inv.4 made.long made.kept made.done in
+    let turn = next_performed (g.K.Kind.algebra c.args.kind.now) calls c.args.reasoner.now c.args.steps.now c.loop-i.outcomes i c.perform_behind-outcome.result room
+    c.args.outcomes.now c.put.new.places c.loop-i.reasoner c.perform_behind-outcome.new.reasoner c.loop-i.steps c.perform_behind-outcome.new.steps c.index-calls-i.result
+    c.loop-i.written c.steps_of-written.result c.put.ensures c.steps_of-written.ensures call inv.1 inv.2 c.perform_behind-outcome.auto.steps inv.3 inv.4 made.long made.kept made.done in
     ((made.memory.0 ∙ inv.0.0, made.memory.1 ∙ inv.0.1), turn.0, turn.1, turn.2, turn.3)
 
 pub returns : goal.returns

@@ -10,17 +10,17 @@ returns-in-Some g c =
     let read = c.in-Some.ensures in
     let code_is : c.encode.result ≡ coded c.in-Some.grade = search rules in
     let line = line_inner coded t k (c.in-Some.statement, c.in-Some.grade) c.encode.result read.0 read.1 code_is in
-    let both = line_printed coded t k c.if-not-reasoner.false _ line c.args.buffer.now _ c.statement-line.result c.statement-line.ensures in
-    record { rows = both.0; run = both.1; within = written_within _ c.args.buffer.now _ c.statement-line.result c.statement-line.ensures }
+    let both = line_printed coded t k c.if-not-reasoner.false _ line c.args.buffer.now _ c.statement_line.result c.statement_line.ensures in
+    record { rows = both.0; run = both.1; within = written_within _ c.args.buffer.now _ c.statement_line.result c.statement_line.ensures }
 
 pub returns-then-k-reasoner : goal.returns-then-k-reasoner
 returns-then-k-reasoner g c =
     let coded = g.K.StoredKind.coded in
     let t = c.args.reasoner.now in
     let k = c.args.k in
-    let line = line_last coded t k c.stand-of.result c.if-k-reasoner.true c.stand-of.ensures in
-    let both = line_printed coded t k c.if-not-reasoner.false _ line c.args.buffer.now _ c.stand-line.result c.stand-line.ensures in
-    record { rows = both.0; run = both.1; within = written_within _ c.args.buffer.now _ c.stand-line.result c.stand-line.ensures }
+    let line = line_last coded t k c.stand_of.result c.if-k-reasoner.true c.stand_of.ensures in
+    let both = line_printed coded t k c.if-not-reasoner.false _ line c.args.buffer.now _ c.stand_line.result c.stand_line.ensures in
+    record { rows = both.0; run = both.1; within = written_within _ c.args.buffer.now _ c.stand_line.result c.stand_line.ensures }
 
 pub returns : goal.returns
 returns g c =
@@ -28,6 +28,6 @@ returns g c =
     let t = c.args.reasoner.now in
     let k = c.args.k in
     let before = c.args.buffer.now in
-    let past = c.in-default.ensures in
+    let past = c.in_default.ensures in
     let both = line_printed coded t k c.if-not-reasoner.false _ (line_past coded t k (omega arith)) before before (Ok 0) (refl, omega arith, refl) in
     record { rows = both.0; run = both.1; within = omega arith }

@@ -5,8 +5,8 @@ use Rattle.standpoint.proofs.rules.conclude.Goals as goal
 
 pub returns-in-One : goal.returns-in-One
 returns-in-One c =
-    let told = concluded c.args.individuals c.args.rule c.args.premises c.from-one.result (search rules) in
-    record { conclusion = told; fits = fits_as c.args.individuals c.args.rule _ c.from-one.result told }
+    let told = concluded c.args.individuals c.args.rule c.args.premises c.from_one.result (search rules) in
+    record { conclusion = told; fits = fits_as c.args.individuals c.args.rule _ c.from_one.result told }
 
 pub returns-in-Two : goal.returns-in-Two
 returns-in-Two c =

@@ -5,14 +5,14 @@ use Rattle.standpoint.proofs.tautologies.tautology.Goals as goal
 pub returns-then-k-standpoints : goal.returns-then-k-standpoints
 returns-then-k-standpoints c = rw nth_part (search rules)
 
-pub returns-then-k-saturating-sub : goal.returns-then-k-saturating-sub
-returns-then-k-saturating-sub c = rw (nth_part, nth_part) (search rules)
+pub returns-then-k-saturating_sub : goal.returns-then-k-saturating_sub
+returns-then-k-saturating_sub c = rw (nth_part, nth_part) (search rules)
 
 pub returns-then-k-concepts : goal.returns-then-k-concepts
 returns-then-k-concepts c = rw (nth_part, nth_part, nth_part) (search rules)
 
-pub returns-then-k-saturating-sub-2 : goal.returns-then-k-saturating-sub-2
-returns-then-k-saturating-sub-2 c = rw (nth_part, nth_part, nth_part, nth_part) (search rules)
+pub returns-then-k-saturating_sub-2 : goal.returns-then-k-saturating_sub-2
+returns-then-k-saturating_sub-2 c = rw (nth_part, nth_part, nth_part, nth_part) (search rules)
 
 pub returns-then-k-from : goal.returns-then-k-from
 returns-then-k-from c = rw (nth_part, nth_part, nth_part, nth_part, nth_stretch) (search rules)

@@ -8,5 +8,5 @@ returns-in-0 g c = accepted_told _ _ _ _ _ _ c.in-0.is c.by_acceptance.ensures
 pub returns-in-24 : goal.returns-in-24
 returns-in-24 g c = tautology_told _ _ _ _ _ _ c.in-24.is c.by_tautology.ensures
 
-pub returns-in-default : goal.returns-in-default
-returns-in-default g c = rule_told _ _ _ _ _ _ (λ e. omega arith) (λ e. omega arith) c.follows.ensures
+pub returns-in_default : goal.returns-in_default
+returns-in_default g c = rule_told _ _ _ _ _ _ (λ e. omega arith) (λ e. omega arith) c.follows.ensures

@@ -36,8 +36,8 @@ returns-then-count-eq3 g c =
     let al = g.K.Kind.algebra c.args.kind.now in
     let is : arity_of c.args.rule ≡ 3 = sym c.arity-count.ensures.value ∙ c.if-count-eq3.true in
     record {
-      same = c.all-triples.ensures.same;
-      state = around_triples al c.args.individuals (view c.args.self.now) (view c.all-triples.new.self) c.args.rule c.args.newest c.args.i c.all-triples.result is c.all-triples.ensures.state;
+      same = c.all_triples.ensures.same;
+      state = around_triples al c.args.individuals (view c.args.self.now) (view c.all_triples.new.self) c.args.rule c.args.newest c.args.i c.all_triples.result is c.all_triples.ensures.state;
     }
 
 pub returns : goal.returns

@@ -8,14 +8,14 @@ use Rattle.saturation.proofs.Reading.{premises_stand}
 use Rattle.saturation.proofs.Searches.{attempt_none, attempt_some}
 use Rattle.saturation.proofs.table.Table.attempt.Goals as goal
 
-pub returns-in-default : goal.returns-in-default
-returns-in-default g c =
+pub returns-in_default : goal.returns-in_default
+returns-in_default g c =
     let al = g.K.Kind.algebra c.args.kind.now in
     let t = c.args.self.now in
     let n = c.args.individuals in
     let places = listed_places c.args.at in
     let stands = premises_stand (view t) (t.settled_fit, t.turns) t.grades_fit al.start places c.requires in
-    let none = subst (λ (qs : List Statement). Concluded n c.args.rule qs None) (c.premises-premises.ensures al.start) c.in-default.ensures.conclusion in
+    let none = subst (λ (qs : List Statement). Concluded n c.args.rule qs None) (c.premises-premises.ensures al.start) c.in_default.ensures.conclusion in
     record { same = search rules; state = attempt_none al n (view t) c.args.rule places (premises_in (view t) al.start places) stands none }
 
 pub returns : goal.returns

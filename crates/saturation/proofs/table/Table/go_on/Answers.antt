@@ -9,11 +9,11 @@ pub returns : goal.returns
 returns g c =
     let al = g.K.Kind.algebra c.args.kind.now in
     let t = c.args.self.now in
-    let u = view c.settle-one.new.self in
+    let u = view c.settle_one.new.self in
     record {
-      same = c.settle-one.ensures.same;
-      long = turned_long al t.phase.sizes.individuals (view t) u c.settle-one.result c.settle-one.ensures.state;
+      same = c.settle_one.ensures.same;
+      long = turned_long al t.phase.sizes.individuals (view t) u c.settle_one.result c.settle_one.ensures.state;
       run = λ base e settled h.
-          went_on al base settled (view t) h u t.grades_fit c.settle-one.result
-          (subst (λ (n : ℕ). Turned al n (view t) u c.settle-one.result) (sym e) c.settle-one.ensures.state);
+          went_on al base settled (view t) h u t.grades_fit c.settle_one.result
+          (subst (λ (n : ℕ). Turned al n (view t) u c.settle_one.result) (sym e) c.settle_one.ensures.state);
     }

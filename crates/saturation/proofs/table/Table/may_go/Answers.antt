@@ -5,18 +5,18 @@ use Rattle.saturation.proofs.table.Table.may_go.Goals as goal
 
 pub returns-in-First : goal.returns-in-First
 returns-in-First g c off =
-    let x = c.settled-statement-x.result in
-    let y = c.settled-statement-y.result in
-    same_never c.args.rule First c.args.position x _ y _ (sym c.in-First.is) c.settled-statement-x.ensures c.settled-statement-y.ensures (never_first c.may-meet.result c.args.rule x y off c.may-meet.ensures)
+    let x = c.settled_statement-x.result in
+    let y = c.settled_statement-y.result in
+    same_never c.args.rule First c.args.position x _ y _ (sym c.in-First.is) c.settled_statement-x.ensures c.settled_statement-y.ensures (never_first c.may_meet.result c.args.rule x y off c.may_meet.ensures)
 
 pub returns-in-Second : goal.returns-in-Second
 returns-in-Second g c off =
-    let x = c.settled-statement-x.result in
-    let y = c.settled-statement-y.result in
-    same_never c.args.rule Second c.args.position x _ y _ (sym c.in-Second.is) c.settled-statement-x.ensures c.settled-statement-y.ensures (never_second c.may-meet-in-Second.result c.args.rule x y off c.may-meet-in-Second.ensures)
+    let x = c.settled_statement-x.result in
+    let y = c.settled_statement-y.result in
+    same_never c.args.rule Second c.args.position x _ y _ (sym c.in-Second.is) c.settled_statement-x.ensures c.settled_statement-y.ensures (never_second c.may_meet-in-Second.result c.args.rule x y off c.may_meet-in-Second.ensures)
 
 pub returns-in-Third : goal.returns-in-Third
 returns-in-Third g c off =
-    let x = c.settled-statement-x.result in
-    let y = c.settled-statement-y.result in
-    same_never c.args.rule Third c.args.position x _ y _ (sym c.in-Third.is) c.settled-statement-x.ensures c.settled-statement-y.ensures (never_third c.may-meet-in-Third.result c.args.rule x y off c.may-meet-in-Third.ensures)
+    let x = c.settled_statement-x.result in
+    let y = c.settled_statement-y.result in
+    same_never c.args.rule Third c.args.position x _ y _ (sym c.in-Third.is) c.settled_statement-x.ensures c.settled_statement-y.ensures (never_third c.may_meet-in-Third.result c.args.rule x y off c.may_meet-in-Third.ensures)

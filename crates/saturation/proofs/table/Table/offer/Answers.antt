@@ -3,12 +3,12 @@ use Rattle.saturation.specs.Tables.{view}
 use Rattle.saturation.proofs.Offers.{taken_pushed, taken_improved, taken_left, keeps_pushed, keeps_improved}
 use Rattle.saturation.proofs.table.Table.offer.Goals as goal
 
-pub returns-in-default : goal.returns-in-default
-returns-in-default g c =
+pub returns-in_default : goal.returns-in_default
+returns-in_default g c =
     let k = c.args.kind.now in
     record {
       same = c.push.ensures.same;
-      state = taken_pushed (g.K.Kind.algebra k) (g.met.K.Kind.lawful k) (view c.args.self.now) (view c.push.new.self) _ _ c.args.grade c.push.ensures.room c.push.ensures.state refl c.in-default.ensures;
+      state = taken_pushed (g.K.Kind.algebra k) (g.met.K.Kind.lawful k) (view c.args.self.now) (view c.push.new.self) _ _ c.args.grade c.push.ensures.room c.push.ensures.state refl c.in_default.ensures;
       keeps = keeps_pushed (g.K.Kind.algebra k) (view c.args.self.now) (view c.push.new.self) _ _ c.args.grade c.push.ensures.room c.push.ensures.state;
     }
 

@@ -18,13 +18,13 @@ returns-in-Nothing g c =
     let t = c.loop-k.self in
     let inv = c.loop-k.invariant in
     let fits = fits_capacity (view t) t.rows_fit t.grades_fit t.few in
-    let u = c.go-on.new.self in
+    let u = c.go_on.new.self in
     let on = subst (λ (p : Phase). Goes_on al p.sizes.individuals (view t) (view u) turn.Nothing) inv.0.2 c.in-Nothing.ensures.run in
     record {
-      same = same_then inv.0 c.go-on.ensures.same;
-      long = c.go-on.ensures.long ∙ inv.1;
+      same = same_then inv.0 c.go_on.ensures.same;
+      long = c.go_on.ensures.long ∙ inv.1;
       within = omega arith;
-      run = so_far_ended al v (view s) (view t) (view u) c.loop-k.k inv.2 inv.1 fits c.args.n c.loop-k-test.true on c.go-on.ensures.long (fits_capacity (view u) u.rows_fit u.grades_fit u.few);
+      run = so_far_ended al v (view s) (view t) (view u) c.loop-k.k inv.2 inv.1 fits c.args.n c.loop-k-test.true on c.go_on.ensures.long (fits_capacity (view u) u.rows_fit u.grades_fit u.few);
     }
 
 pub returns-in-Overflowed : goal.returns-in-Overflowed
@@ -35,13 +35,13 @@ returns-in-Overflowed g c =
     let t = c.loop-k.self in
     let inv = c.loop-k.invariant in
     let fits = fits_capacity (view t) t.rows_fit t.grades_fit t.few in
-    let u = c.go-on.new.self in
+    let u = c.go_on.new.self in
     let on = subst (λ (p : Phase). Goes_on al p.sizes.individuals (view t) (view u) turn.Overflowed) inv.0.2 c.in-Overflowed.ensures.run in
     record {
-      same = same_then inv.0 c.go-on.ensures.same;
-      long = c.go-on.ensures.long ∙ inv.1;
+      same = same_then inv.0 c.go_on.ensures.same;
+      long = c.go_on.ensures.long ∙ inv.1;
       within = omega arith;
-      run = so_far_full al v (view s) (view t) (view u) c.loop-k.k inv.2 inv.1 fits c.args.n c.loop-k-test.true on c.go-on.ensures.long;
+      run = so_far_full al v (view s) (view t) (view u) c.loop-k.k inv.2 inv.1 fits c.args.n c.loop-k-test.true on c.go_on.ensures.long;
     }
 
 pub loop-k-preserved : goal.loop-k-preserved
@@ -52,9 +52,9 @@ loop-k-preserved g c =
     let t = c.loop-k.self in
     let inv = c.loop-k.invariant in
     let fits = fits_capacity (view t) t.rows_fit t.grades_fit t.few in
-    let u = c.go-on.new.self in
+    let u = c.go_on.new.self in
     let on = subst (λ (p : Phase). Goes_on al p.sizes.individuals (view t) (view u) turn.Settled) inv.0.2 c.in-Settled.ensures.run in
-    (same_then inv.0 c.go-on.ensures.same, c.go-on.ensures.long ∙ inv.1, so_far_more al v (view s) (view t) (view u) c.loop-k.k inv.2 inv.1 fits on)
+    (same_then inv.0 c.go_on.ensures.same, c.go_on.ensures.long ∙ inv.1, so_far_more al v (view s) (view t) (view u) c.loop-k.k inv.2 inv.1 fits on)
 
 pub returns : goal.returns
 returns g c =

@@ -13,18 +13,18 @@ pub returns-then-search : goal.returns-then-search
 returns-then-search g c =
     let k = c.args.kind.now in
     let t = c.args.self.now in
-    let m = c.settle-row.new.self in
+    let m = c.settle_row.new.self in
     record {
-      same = same_then c.settle-row.ensures.same c.search.ensures.same;
-      state = took_turn (g.K.Kind.algebra k) (g.met.K.Kind.lawful k) t.phase.sizes.individuals (view t) (view m) (view c.search.new.self) c.in-Some.i true (t.settled_fit, t.turns) (m.settled_fit, m.turns) t.rows_fit t.grades_fit c.if-newest-self.false c.in-Some.ensures c.settle-row.ensures.state c.if-search.ensures.state;
+      same = same_then c.settle_row.ensures.same c.search.ensures.same;
+      state = took_turn (g.K.Kind.algebra k) (g.met.K.Kind.lawful k) t.phase.sizes.individuals (view t) (view m) (view c.search.new.self) c.in-Some.i true (t.settled_fit, t.turns) (m.settled_fit, m.turns) t.rows_fit t.grades_fit c.if-newest-self.false c.in-Some.ensures c.settle_row.ensures.state c.if-search.ensures.state;
     }
 
 pub returns-else-search : goal.returns-else-search
 returns-else-search g c =
     let k = c.args.kind.now in
     let t = c.args.self.now in
-    let m = c.settle-row.new.self in
+    let m = c.settle_row.new.self in
     record {
-      same = same_then c.settle-row.ensures.same c.search.ensures.same;
-      state = took_turn (g.K.Kind.algebra k) (g.met.K.Kind.lawful k) t.phase.sizes.individuals (view t) (view m) (view c.search.new.self) c.in-Some.i false (t.settled_fit, t.turns) (m.settled_fit, m.turns) t.rows_fit t.grades_fit c.if-newest-self.false c.in-Some.ensures c.settle-row.ensures.state c.if-search.ensures.state;
+      same = same_then c.settle_row.ensures.same c.search.ensures.same;
+      state = took_turn (g.K.Kind.algebra k) (g.met.K.Kind.lawful k) t.phase.sizes.individuals (view t) (view m) (view c.search.new.self) c.in-Some.i false (t.settled_fit, t.turns) (m.settled_fit, m.turns) t.rows_fit t.grades_fit c.if-newest-self.false c.in-Some.ensures c.settle_row.ensures.state c.if-search.ensures.state;
     }

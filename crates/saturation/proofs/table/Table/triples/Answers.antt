@@ -8,14 +8,14 @@ use Rattle.saturation.proofs.Sameness.{same_then}
 use Rattle.saturation.proofs.Enumerating.{Triple, Using, settled_arranged, in_arranged, went_triple, went_triples, went_never, went_refused, went_broken}
 use Rattle.saturation.proofs.table.Table.triples.Goals as goal
 
-pub returns-then-not-may-go : goal.returns-then-not-may-go
-returns-then-not-may-go g c =
+pub returns-then-not-may_go : goal.returns-then-not-may_go
+returns-then-not-may_go g c =
     let al = g.K.Kind.algebra c.args.kind.now in
     let t = c.args.self.now in
     let stands = premises_stand (view t) (t.settled_fit, t.turns) t.grades_fit al.start in
     record {
       same = search rules;
-      state = went_never al c.args.individuals (view t) c.args.rule c.args.position c.args.newest c.args.i al.start stands c.requires.0 c.requires.1 (c.may-go.ensures c.if-not-may-go.true);
+      state = went_never al c.args.individuals (view t) c.args.rule c.args.position c.args.newest c.args.i al.start stands c.requires.0 c.requires.1 (c.may_go.ensures c.if-not-may_go.true);
     }
 
 pub attempt-requires : goal.attempt-requires

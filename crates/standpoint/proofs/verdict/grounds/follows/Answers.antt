@@ -1,8 +1,8 @@
 use Rattle.standpoint.proofs.Grounds.{unconcluded, follows_told}
 use Rattle.standpoint.proofs.verdict.grounds.follows.Goals as goal
 
-pub returns-in-default-conclude : goal.returns-in-default-conclude
-returns-in-default-conclude g c = unconcluded _ _ _ _ _ c.in-Some.ensures c.in-default-conclude.ensures.conclusion
+pub returns-in_default-conclude : goal.returns-in_default-conclude
+returns-in_default-conclude g c = unconcluded _ _ _ _ _ c.in-Some.ensures c.in_default-conclude.ensures.conclusion
 
 pub returns : goal.returns
 returns g c =

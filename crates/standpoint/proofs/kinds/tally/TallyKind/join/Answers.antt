@@ -3,4 +3,4 @@ use Rattle.standpoint.specs.GradeLaws.{same_made}
 use Rattle.standpoint.proofs.kinds.tally.TallyKind.join.Goals as goal
 
 pub returns : goal.returns
-returns c = same_made tally_grade _ _ c.held-sum.ensures
+returns c = same_made tally_grade _ _ c.held_sum.ensures
