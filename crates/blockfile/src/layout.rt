@@ -22,7 +22,7 @@ fn headed(block: &[u8], kind_byte: u8, number: u16) -> bool
     requires { length block.now ≡ 512 }
     ensures { Tells result (Headed kind_byte number block.now) }
 {
-    &block[0..4] == b"SPLV"
+    &block[0..4] == b"SPLV".as_slice()
         && block[4] == kind_byte
         && u16::from_be_bytes([block[6], block[7]]) == number
 }

@@ -2,8 +2,8 @@ use Rattle.std.proofs.Common.{◌+◌, ◌*◌, ◌<◌, ◌≤◌, arith, rules
 use Rattle.blockfile.proofs.Weights.{weighted_more, weighted_all, small}
 use Rattle.blockfile.proofs.sum.weighted_sum.Goals as goal
 
-pub overflow-add-sum-in-loop-i : goal.overflow-add-sum-in-loop-i
-overflow-add-sum-in-loop-i c =
+pub overflow_add-sum-in-loop-i : goal.overflow_add-sum-in-loop-i
+overflow_add-sum-in-loop-i c =
     let b = small c.from.result c.loop-i.i (omega arith) (omega arith) in
     omega (arith, b)
 

@@ -28,7 +28,7 @@ loop-k-preserved g c =
       | else-marked w ↦ to _ _ _ _ w.count-is w.buffer-is (writing_skip s (mark_at s) old k c.loop-k.count c.loop-k.buffer c.loop-k.invariant w.if-marked.ensures)
     ]
 
-pub overflow-add-count : goal.overflow-add-count
-overflow-add-count g c =
+pub overflow_add-count : goal.overflow_add-count
+overflow_add-count g c =
     let h : c.loop-k.count < length c.loop-k.buffer = place_left (view c.args.reasoner.now) (mark_at (view c.args.reasoner.now)) c.args.buffer.now c.loop-k.k c.loop-k.count c.loop-k.buffer c.loop-k.invariant c.args.t c.requires.1 c.loop-k-test.true c.if-marked.ensures in
     search rules

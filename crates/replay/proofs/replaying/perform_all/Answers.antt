@@ -8,8 +8,8 @@ use Rattle.replay.proofs.replaying.perform_all.Goals as goal
 pub loop-i-init : goal.loop-i-init
 loop-i-init g c = ((refl, refl), refl, omega arith, refl, none)
 
-pub overflow-add-written : goal.overflow-add-written
-overflow-add-written g c =
+pub overflow_add-written : goal.overflow_add-written
+overflow_add-written g c =
     let w = c.loop-i.written in
     let steps = c.loop-i.steps in
     let few = steps_fit (g.K.Kind.algebra c.args.kind.now) c.index-calls-i.result c.perform_behind-outcome.result c.loop-i.reasoner c.perform_behind-outcome.new.reasoner (drop w steps) (drop w c.perform_behind-outcome.new.steps) c.perform_behind-outcome.ensures.done in
