@@ -1,5 +1,5 @@
 -- A file with a fault is not sound.
-use Rattle.std.proofs.Common.{◌≡◌, ℕ, ◌<◌, ◌⊎◌, List, is_ok, Ok, Err, Result, inl, inr, arith}
+use Rattle.std.proofs.Common.{◌≡◌, ℕ, ◌<◌, List, is_ok, Err, Result, inl, inr, arith}
 use Rattle.standpoint.specs.declared.sizes.Sizes.{Sizes}
 use Rattle.standpoint.specs.Lists.{Tells}
 use Rattle.blockfile.specs.declared.fault.BlockFault.{BlockFault}
@@ -7,7 +7,7 @@ use Rattle.blockfile.specs.declared.fault.BlockFault.TheVariants.{Sum, Layout, B
 use Rattle.blockfile.specs.declared.fault.LoadFault.{LoadFault}
 use Rattle.blockfile.specs.declared.fault.LoadFault.TheVariants.{Length, InBlock}
 use Rattle.blockfile.specs.Layout.{Sound, SoundBlock, SoundBelow, Whole, block_of}
-use Rattle.blockfile.specs.Faults.{BlockFaulty, FirstUnsound, BlocksChecked, SizesFaulty, FileChecked}
+use Rattle.blockfile.specs.Faults.{BlockFaulty, BlocksChecked, SizesFaulty, FileChecked}
 
 -- what a fault says of the check of the whole file
 abbrev pub FaultyFile : ℕ → List ℕ → LoadFault → Type 0

@@ -1,5 +1,5 @@
 -- Numbers within a bound and what is made of them are inverse.
-use Rattle.std.specs.Prelude.{◌≡◌, ℕ, ◌≤◌, Bool, true, false, leb, Some, None, Option, nat_le}
+use Rattle.std.specs.Prelude.{◌≡◌, ℕ, ◌≤◌, Bool, true, false, leb, Some, None, nat_le}
 use Rattle.std.proofs.Math.Path.{refl, ap, sym}
 use Rattle.std.proofs.Common.{◌∙◌, arith, leb-true, le-leb}
 use Rattle.std.proofs.Math.Bridge.{le_prop}

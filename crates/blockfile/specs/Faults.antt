@@ -7,13 +7,12 @@ use Rattle.standpoint.specs.Sizes.{InRange}
 use Rattle.blockfile.specs.declared.fault.FaultReport.{FaultReport}
 use Rattle.blockfile.specs.declared.fault.Layer.{Layer}
 use Rattle.blockfile.specs.declared.fault.Layer.TheVariants.{File, Block, Record}
-use Rattle.blockfile.specs.declared.fault.RecordFault.{RecordFault}
 use Rattle.blockfile.specs.declared.fault.RecordFault.TheVariants.{Code, Add}
 use Rattle.blockfile.specs.declared.fault.BlockFault.{BlockFault}
 use Rattle.blockfile.specs.declared.fault.BlockFault.TheVariants.{Sum, Layout, Begin, InRecord}
 use Rattle.blockfile.specs.declared.fault.LoadFault.{LoadFault}
 use Rattle.blockfile.specs.declared.fault.LoadFault.TheVariants.{Length, InBlock}
-use Rattle.blockfile.specs.Layout.{Summed, Laid_out, SoundBlock, SoundBelow, Sound, Whole, NotWhole, block_of, sizes_in}
+use Rattle.blockfile.specs.Layout.{Summed, Laid_out, SoundBelow, Sound, Whole, NotWhole, block_of, sizes_in}
 
 abbrev pub report : Refusal → Layer → ℕ → ℕ → FaultReport
 report why layer block place = record { why = why; layer = layer; block = block; place = place }

@@ -1,31 +1,26 @@
 -- One statement more is accepted.
-use Rattle.std.proofs.Common.{◌≡◌, ℕ, ◌+◌, ◌<◌, ◌≤◌, Bool, true, false, ◌⊎◌, List, [], ◌∷◌, ◌++◌, length, sym, refl, ap, ◌∙◌, subst, inl, inr, ⊎_elim, arith}
+use Rattle.std.proofs.Common.{◌≡◌, ◌≤◌, true, false, List, [], ◌∷◌, length, refl, subst, inl, inr, ⊎_elim, arith}
 use Rattle.std.proofs.lemmas.Bool.Decides.{nat_tests}
 use Rattle.standpoint.specs.declared.statement.Statement.{Statement}
 use Rattle.standpoint.specs.Lists.{In}
-use Rattle.standpoint.specs.Sizes.{InRange}
 use Rattle.standpoint.specs.Statements.{Fits}
 use Rattle.standpoint.specs.Algebra.{Algebra}
-use Rattle.standpoint.specs.Derivations.{Base, Leaf}
+use Rattle.standpoint.specs.Derivations.{Base}
 use Rattle.standpoint.specs.Derivations.Leaf.{accepted, tautology}
-use Rattle.runs.specs.Runs.{Settled, Offers, Known, Settling, Stands}
+use Rattle.runs.specs.Runs.{Offers, Known}
 use Rattle.runs.specs.Runs.Run.{fresh}
 use Rattle.runs.specs.Runs.Offers.{leaf, one, two, three}
-use Rattle.runs.specs.declared.Stand.{Stand}
-use Rattle.runs.specs.declared.Stand.TheVariants.{Open, Ended, Full}
 use Rattle.runs.proofs.Distinct.{apart_distinct}
 use Rattle.saturation.specs.declared.row.Kept.{Kept}
-use Rattle.saturation.specs.declared.table.Phase.{Phase}
-use Rattle.saturation.specs.declared.table.Table.{Table}
 use Rattle.saturation.specs.Rows.{kept}
-use Rattle.saturation.specs.Tables.{State, view, statement_at, capacity, has_room, Absent, Same, phase, sealed_phase}
+use Rattle.saturation.specs.Tables.{State, capacity, has_room, Absent}
 use Rattle.saturation.specs.Places.{KeptRight, kept_accepted, kept_tautology, kept_step}
 use Rattle.saturation.specs.Offering.{Taken, Keeps}
-use Rattle.saturation.specs.Saturation.{Holds, HoldsAs, Settles}
+use Rattle.saturation.specs.Saturation.{Holds}
 use Rattle.saturation.proofs.Lists.{Fit, lists_grown}
 use Rattle.saturation.proofs.Going.{row_known, held, length_held, in_held, apart_held}
-use Rattle.reasoner.specs.Models.{Model, based, running, stopped, accepting, StandsFor}
-use Rattle.reasoner.specs.Calls.{AllRowsTaken, is_full, after, SettlesOn}
+use Rattle.reasoner.specs.Models.{accepting}
+use Rattle.reasoner.specs.Calls.{AllRowsTaken}
 
 module _ {G : Type 0} (al : Algebra G) (b : Base G) (x : Statement) (g : G) where
   wider : (y : Statement) (h : G) → Offers al b [] y h → Offers al (accepting b x g) [] y h

@@ -1,6 +1,5 @@
 -- Taking the tautologies one by one.
-use Rattle.std.proofs.Common.{◌≡◌, ℕ, zero, suc, ◌+◌, ◌<◌, ◌≤◌, Bool, true, false, ◌⊎◌, List, [], ◌∷◌, length, Some, None, sym, refl, ap, ◌∙◌, subst, inl, inr, ⊎_elim, arith}
-use borrow.Author.Tests.{both_ways}
+use Rattle.std.proofs.Common.{◌≡◌, ℕ, suc, ◌+◌, ◌<◌, ◌≤◌, Bool, true, false, List, [], ◌∷◌, length, Some, None, sym, refl, ap, ◌∙◌, subst, inl, inr, ⊎_elim, arith}
 use Rattle.std.specs.List.{slice_get}
 use Rattle.std.proofs.lemmas.Bool.Decides.{nat_tests}
 use Rattle.standpoint.specs.declared.sizes.Sizes.{Sizes}
@@ -8,8 +7,8 @@ use Rattle.standpoint.specs.declared.statement.Statement.{Statement}
 use Rattle.standpoint.specs.Lists.{In}
 use Rattle.standpoint.specs.Algebra.{Algebra}
 use Rattle.standpoint.specs.Rules.{Tautology}
-use Rattle.standpoint.specs.Tautologies.{tautologies, ListsTautologies}
-use Rattle.standpoint.specs.Derivations.{Base, Leaf}
+use Rattle.standpoint.specs.Tautologies.{tautologies}
+use Rattle.standpoint.specs.Derivations.{Leaf}
 use Rattle.standpoint.specs.Derivations.Leaf.{accepted, tautology}
 use Rattle.standpoint.proofs.TautologyList.{tautologies_listed}
 use Rattle.runs.specs.Runs.{Offers}
@@ -20,8 +19,8 @@ use Rattle.saturation.specs.declared.row.Row.{Row}
 use Rattle.saturation.specs.Rows.{kept}
 use Rattle.saturation.specs.Tables.{State, OpenAt, statement_at, capacity, has_room}
 use Rattle.saturation.specs.Tables as tables
-use Rattle.saturation.specs.Places.{KeptRight, kept_tautology}
-use Rattle.saturation.specs.Offering.{Apart, BestOf, Grown, Taken, Keeps}
+use Rattle.saturation.specs.Places.{kept_tautology}
+use Rattle.saturation.specs.Offering.{Apart, Grown, Taken, Keeps}
 use Rattle.saturation.specs.Saturation.{Holds}
 use Rattle.saturation.proofs.Offers.{last_or, below_or}
 use Rattle.reasoner.specs.Models.{empty_base}

@@ -1,6 +1,5 @@
 -- What is known of a reasoner that holds a run.
 use Rattle.std.proofs.Common.{◌≡◌, Bool, true, false, ap}
-use Rattle.standpoint.specs.declared.sizes.Sizes.{Sizes}
 use Rattle.standpoint.specs.Sizes.{InRange}
 use Rattle.standpoint.specs.Algebra.{Algebra}
 use Rattle.standpoint.specs.Derivations.{Base}

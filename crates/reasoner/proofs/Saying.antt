@@ -1,5 +1,5 @@
 -- What the rows tell of a statement, and of how the run stands.
-use Rattle.std.proofs.Common.{◌≡◌, ℕ, ◌+◌, ◌<◌, ◌≤◌, Bool, true, false, cond, leb, ◌⊎◌, length, get_or, Some, None, sym, refl, ap, ◌∙◌, subst, inl, inr, ⊎_elim, arith}
+use Rattle.std.proofs.Common.{◌≡◌, ℕ, ◌<◌, ◌≤◌, Bool, true, false, cond, leb, ◌⊎◌, get_or, Some, None, sym, ap, ◌∙◌, subst, ⊎_elim, arith}
 use borrow.Author.Tests.{both_ways}
 use Rattle.std.proofs.lemmas.Bool.Decides.{nat_tests}
 use Rattle.standpoint.specs.declared.statement.Statement.{Statement}
@@ -13,7 +13,7 @@ use Rattle.runs.specs.Runs.{Settled, Unsettled, Stands}
 use Rattle.runs.proofs.Best.{settled_is_best, none_is_exact}
 use Rattle.saturation.specs.declared.table.Phase.{Phase}
 use Rattle.saturation.specs.declared.table.Table.{Table}
-use Rattle.saturation.specs.Tables.{State, view, capacity, row_at, statement_at, turn_at, OpenAt, Absent}
+use Rattle.saturation.specs.Tables.{State, view, capacity, statement_at, turn_at, OpenAt}
 use Rattle.saturation.specs.Offering.{Apart}
 use Rattle.saturation.specs.Searching.{Lists}
 use Rattle.saturation.specs.Saturation.{Holds}
@@ -25,8 +25,8 @@ use Rattle.saturation.proofs.Lasting.{fits_capacity}
 use Rattle.reasoner.specs.Models.{Holding, taking, going, standing}
 use Rattle.reasoner.specs.declared.asking.Answer.{Answer}
 use Rattle.reasoner.specs.declared.asking.Answer.TheVariants.{Graded, Nothing, Pending}
-use Rattle.reasoner.specs.Asking.{BestGrade, Excludes, Underivable, Says, RowGraded, LeftOver}
-use Rattle.reasoner.proofs.Holding.{Held, held}
+use Rattle.reasoner.specs.Asking.{Says, RowGraded, LeftOver}
+use Rattle.reasoner.proofs.Holding.{held}
 
 -- the facts of a table that its ghost fields hold
 fit_of : {G : Type 0} (t : Table G) → Fit (view t)
@@ -125,9 +125,9 @@ module _ {G : Type 0} (a : Algebra G) (b : Base G) (t : Table G) where
         (un, ended, (none_is_exact a b l (held h).run ended.1 x).0 un)
 
     says_pending : RowGraded (view t) x None → (Stands a b (capacity (view t)) l Ended → ⊥) → Says a b l (capacity (view t)) x Pending
-    says_pending row Going-on = (no_settled_row (view t) l (held h).lists (fit_of t) x (held h).apart row, Going-on)
+    says_pending row still = (no_settled_row (view t) l (held h).lists (fit_of t) x (held h).apart row, still)
 
     pub said_without : RowGraded (view t) x None → (said : Answer G) → LeftOver t said → Says a b l (capacity (view t)) x said
     said_without row (Graded g) none = absurd none
     said_without row Nothing ended = says_nothing row (ended a b l h)
-    said_without row Pending Going-on = says_pending row (Going-on a b l h)
+    said_without row Pending still = says_pending row (still a b l h)

@@ -1,31 +1,17 @@
 -- A settle seals the base and goes on with the run.
-use Rattle.std.proofs.Common.{◌≡◌, ℕ, ◌+◌, ◌<◌, ◌≤◌, Bool, true, false, ◌⊎◌, List, [], ◌∷◌, ◌++◌, length, sym, refl, ap, ◌∙◌, subst, inl, inr, ⊎_elim, arith}
-use Rattle.std.proofs.lemmas.Bool.Decides.{nat_tests}
-use Rattle.standpoint.specs.declared.statement.Statement.{Statement}
-use Rattle.standpoint.specs.Lists.{In}
+use Rattle.std.proofs.Common.{◌≡◌, ℕ, Bool, true, false, ◌++◌, sym, ap, ◌∙◌, subst}
 use Rattle.standpoint.specs.Sizes.{InRange}
-use Rattle.standpoint.specs.Statements.{Fits}
 use Rattle.standpoint.specs.Algebra.{Algebra}
-use Rattle.standpoint.specs.Derivations.{Base, Leaf}
-use Rattle.standpoint.specs.Derivations.Leaf.{accepted, tautology}
-use Rattle.runs.specs.Runs.{Settled, Offers, Known, Settling, Stands}
-use Rattle.runs.specs.Runs.Run.{fresh}
-use Rattle.runs.specs.Runs.Offers.{leaf, one, two, three}
+use Rattle.standpoint.specs.Derivations.{Base}
+use Rattle.runs.specs.Runs.{Settled, Settling, Stands}
 use Rattle.runs.specs.declared.Stand.{Stand}
 use Rattle.runs.specs.declared.Stand.TheVariants.{Open, Ended, Full}
-use Rattle.runs.proofs.Distinct.{apart_distinct}
-use Rattle.saturation.specs.declared.row.Kept.{Kept}
 use Rattle.saturation.specs.declared.table.Phase.{Phase}
 use Rattle.saturation.specs.declared.table.Table.{Table}
-use Rattle.saturation.specs.Rows.{kept}
-use Rattle.saturation.specs.Tables.{State, view, statement_at, capacity, has_room, Absent, Same, phase, sealed_phase}
-use Rattle.saturation.specs.Places.{KeptRight, kept_accepted, kept_tautology, kept_step}
-use Rattle.saturation.specs.Offering.{Taken, Keeps}
+use Rattle.saturation.specs.Tables.{State, view, capacity, Same, phase, sealed_phase}
 use Rattle.saturation.specs.Saturation.{Holds, HoldsAs, Settles}
-use Rattle.saturation.proofs.Lists.{Fit, lists_grown}
-use Rattle.saturation.proofs.Going.{row_known, held, length_held, in_held, apart_held}
-use Rattle.reasoner.specs.Models.{Model, based, running, stopped, accepting, StandsFor}
-use Rattle.reasoner.specs.Calls.{AllRowsTaken, is_full, after, SettlesOn}
+use Rattle.reasoner.specs.Models.{StandsFor}
+use Rattle.reasoner.specs.Calls.{is_full, after, SettlesOn}
 
 -- the phase of a run that stands so
 phase_after : {G : Type 0} (al : Algebra G) (b : Base G) (l : Settled G) (v : Table G) (stand : Stand) →

@@ -1,5 +1,5 @@
 -- What each call answers, and what it makes of a reasoner.
-use Rattle.std.specs.Prelude.{◌≡◌, ℕ, ◌<◌, ◌≤◌, Bool, true, false, ◌⊎◌, List, [], ◌∷◌, ◌++◌, length, Ok, Err, Result}
+use Rattle.std.specs.Prelude.{◌≡◌, ℕ, ◌<◌, ◌≤◌, Bool, true, false, ◌⊎◌, List, [], ◌++◌, length, Ok, Err, Result}
 use Rattle.standpoint.specs.declared.refusal.Refusal.{Refusal}
 use Rattle.standpoint.specs.declared.refusal.Refusal.TheVariants.{NotBegun, SizesOutOfRange, TooFewRows, DoesNotFit, MisplacedIndividual, Sealed, RowsTaken}
 use Rattle.standpoint.specs.declared.sizes.Sizes.{Sizes}
@@ -14,8 +14,8 @@ use Rattle.runs.specs.declared.Stand.{Stand}
 use Rattle.runs.specs.declared.Stand.TheVariants.{Open, Ended, Full}
 use Rattle.runs.specs.Runs.{Settled, Known, Settling, Stands}
 use Rattle.saturation.specs.declared.table.Table.{Table}
-use Rattle.saturation.specs.Tables.{view, capacity, has_room, Absent, OverSame}
-use Rattle.reasoner.specs.Models.{Model, idle, based, running, stopped, empty_base, accepting, StandsFor}
+use Rattle.saturation.specs.Tables.{view, capacity, has_room, Absent}
+use Rattle.reasoner.specs.Models.{Model, based, running, stopped, empty_base, accepting, StandsFor}
 
 -- everything is as it was
 abbrev pub Unchanged : {G : Type 0} → Table G → Table G → Type 0

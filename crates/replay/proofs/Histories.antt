@@ -1,12 +1,11 @@
 -- What the past of a list of calls tells of the reasoner.
-use Rattle.std.proofs.Common.{◌≡◌, ℕ, zero, suc, ◌+◌, ◌<◌, ◌≤◌, true, false, List, [], ◌∷◌, ◌++◌, length, Ok, Err, Result, sym, refl, ap, ◌∙◌, subst, append-nil, arith, length-append}
+use Rattle.std.proofs.Common.{◌≡◌, ℕ, ◌+◌, ◌<◌, ◌≤◌, false, List, [], ◌++◌, length, Ok, Err, Result, sym, refl, ap, ◌∙◌, subst, append-nil, arith, length-append}
 use borrow.Author.Tests.{both_ways}
 use Rattle.standpoint.specs.declared.refusal.Refusal.{Refusal}
 use Rattle.standpoint.specs.declared.sizes.Sizes.{Sizes}
 use Rattle.standpoint.specs.declared.statement.Statement.{Statement}
 use Rattle.standpoint.specs.declared.step.Step.{Step}
 use Rattle.standpoint.specs.Lists.{In}
-use Rattle.standpoint.specs.Sizes.{InRange}
 use Rattle.standpoint.specs.Algebra.{Algebra}
 use Rattle.standpoint.specs.Derivations.{Base}
 use Rattle.runs.specs.declared.Stand.{Stand}
@@ -14,20 +13,18 @@ use Rattle.runs.specs.declared.Stand.TheVariants.{Open, Ended, Full}
 use Rattle.runs.specs.Runs as runs
 use Rattle.saturation.specs.declared.table.Phase.{Phase}
 use Rattle.saturation.specs.declared.table.Table.{Table}
-use Rattle.saturation.specs.Tables.{State, view, phase}
+use Rattle.saturation.specs.Tables.{State}
 use Rattle.saturation.specs.Saturation.{Holds, HoldsFull}
 use Rattle.saturation.proofs.Lists.{in_append_left}
 use Rattle.reasoner.specs.declared.asking.Answer.{Answer}
-use Rattle.reasoner.specs.Models.{based, running, stopped, empty_base, accepting, StandsFor, Holding, taking, going, standing}
+use Rattle.reasoner.specs.Models.{based, running, stopped, accepting, StandsFor, Holding, taking, going, standing}
 use Rattle.reasoner.specs.Calls.{Unchanged, Begun, Adds, SettledSo, SettlesOn}
 use Rattle.reasoner.specs.Calls as calls
-use Rattle.reasoner.specs.Asking.{Asked}
 use Rattle.replay.specs.declared.call.Call.{Call}
 use Rattle.replay.specs.declared.call.Call.TheVariants.{Begin, Add, Settle, Ask, Explain}
-use Rattle.replay.specs.declared.call.Done.{Done}
 use Rattle.replay.specs.declared.call.Done.TheVariants.{Began, Added, Settled, Said, Explained}
-use Rattle.replay.specs.Pasts.{Outcome, Past, past, after}
-use Rattle.replay.specs.Performing.{as_outcome, ExplainsWithin, Performs}
+use Rattle.replay.specs.Pasts.{Outcome, Past, after}
+use Rattle.replay.specs.Performing.{as_outcome, Performs}
 
 -- nothing was begun yet, or the reasoner holds a run over what the past accepted
 pub data Tied {G : Type 0} (a : Algebra G) (p : Past G) (t : Table G) : Type 0 where

@@ -1,14 +1,14 @@
 -- The places of a list of calls.
-use Rattle.std.proofs.Common.{◌≡◌, ℕ, zero, suc, ◌+◌, ◌<◌, ◌≤◌, false, ◌⊎◌, List, length, take, drop, sym, refl, ap, ◌∙◌, subst, inl, inr, ⊎_elim, arith, take-take}
+use Rattle.std.proofs.Common.{◌≡◌, ℕ, zero, suc, ◌<◌, ◌≤◌, false, List, length, take, drop, sym, refl, ap, ◌∙◌, subst, ⊎_elim, arith, take-take}
 use Rattle.standpoint.specs.declared.step.Step.{Step}
 use Rattle.standpoint.specs.Algebra.{Algebra}
 use Rattle.saturation.specs.declared.table.Table.{Table}
 use Rattle.saturation.specs.Tables.{view, capacity}
 use Rattle.saturation.proofs.Offers.{last_or}
 use Rattle.replay.specs.declared.call.Call.{Call}
-use Rattle.replay.specs.Pasts.{Outcome, steps_of, call_at, outcome_at, before, written}
+use Rattle.replay.specs.Pasts.{Outcome, call_at, outcome_at, before, written}
 use Rattle.replay.specs.Performing.{Performs, Performed, none, one_more}
-use Rattle.replay.proofs.Histories.{Tied, not_yet, Goes_on, goes_on}
+use Rattle.replay.proofs.Histories.{Tied, not_yet, goes_on}
 
 take_fewer : {X : Type 0} (m n : ℕ) (xs ys : List X) → m ≤ n → take n xs ≡ take n ys → take m xs ≡ take m ys
 take_fewer {X} m n xs ys h same = sym (take-take m n xs h) ∙ ap (λ (z : List X). take m z) same ∙ take-take m n ys h

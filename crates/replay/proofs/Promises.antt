@@ -1,5 +1,5 @@
 -- What is promised at every place of a list of calls.
-use Rattle.std.proofs.Common.{◌≡◌, ℕ, zero, suc, ◌+◌, ◌-◌, ◌<◌, ◌≤◌, min, true, false, ◌⊎◌, ◌↔◌, List, [], length, take, drop, Ok, Err, Result, sym, refl, ap, ◌∙◌, subst, inl, inr, ⊎_elim, arith, length-drop, length-take, length-take-le, take-take}
+use Rattle.std.proofs.Common.{◌≡◌, ℕ, suc, ◌+◌, ◌≤◌, false, ◌↔◌, List, length, take, drop, Ok, Err, Result, sym, refl, ap, ◌∙◌, subst, ⊎_elim, arith, length-drop, length-take, take-take}
 use borrow.Author.Tests.{both_ways}
 use Rattle.std.proofs.lemmas.List.{drop-take}
 use Rattle.standpoint.specs.declared.refusal.Refusal.{Refusal}
@@ -20,18 +20,17 @@ use Rattle.saturation.specs.Tables.{view, capacity}
 use Rattle.saturation.proofs.Offers.{last_or}
 use Rattle.reasoner.specs.declared.asking.Answer.{Answer}
 use Rattle.reasoner.specs.declared.asking.Answer.TheVariants.{Graded, Nothing, Pending}
-use Rattle.reasoner.specs.Models.{Holding}
-use Rattle.reasoner.specs.Asking.{Asked, Says, BestGrade, Underivable}
-use Rattle.reasoner.proofs.Holding.{Held, held}
+use Rattle.reasoner.specs.Asking.{Asked, Says, Underivable}
+use Rattle.reasoner.proofs.Holding.{held}
 use Rattle.explanation.specs.Explaining.{Explanation, Unexplained, does_not_fit, unsettled, too_short}
 use Rattle.replay.specs.declared.call.Call.{Call}
 use Rattle.replay.specs.declared.call.Call.TheVariants.{Ask, Explain}
 use Rattle.replay.specs.declared.call.Done.{Done}
 use Rattle.replay.specs.declared.call.Done.TheVariants.{Said, Explained}
-use Rattle.replay.specs.Pasts.{Outcome, Past, steps_of, call_at, outcome_at, before, written, after}
+use Rattle.replay.specs.Pasts.{Outcome, Past, steps_of, call_at, outcome_at, before, written}
 use Rattle.replay.specs.Performing.{as_outcome, ExplainsWithin, Performs, Performed, none, one_more}
 use Rattle.replay.specs.Replays.{base_at, Told, GradesAreBest, ContradictionExcludes, RunAt, NothingIsExact, written_at, ExplanationsPass, GradesAreExplained}
-use Rattle.replay.proofs.Histories.{Tied, not_yet, begun, settled_in, Goes_on, goes_on}
+use Rattle.replay.proofs.Histories.{Tied, not_yet, begun, settled_in, goes_on}
 use Rattle.replay.proofs.Places.{Place, place, rows_kept, tied_at, begins_up}
 
 -- a performed call has an answer

@@ -1,5 +1,5 @@
 -- What the calls before a place in a list have come to.
-use Rattle.std.specs.Prelude.{ℕ, zero, suc, ◌+◌, List, [], Ok, Err, Result, slice_index_or}
+use Rattle.std.specs.Prelude.{ℕ, zero, suc, ◌+◌, List, Ok, Err, Result, slice_index_or}
 use Rattle.standpoint.specs.declared.refusal.Refusal.{Refusal}
 use Rattle.standpoint.specs.declared.sizes.Sizes.{Sizes}
 use Rattle.standpoint.specs.Derivations.{Base}

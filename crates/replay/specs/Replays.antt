@@ -20,7 +20,7 @@ use Rattle.replay.specs.declared.call.Call.{Call}
 use Rattle.replay.specs.declared.call.Call.TheVariants.{Ask, Explain}
 use Rattle.replay.specs.declared.call.Done.TheVariants.{Said, Explained}
 use Rattle.replay.specs.Performing.{Performed}
-use Rattle.replay.specs.Pasts.{Outcome, Past, call_at, outcome_at, before, written}
+use Rattle.replay.specs.Pasts.{Outcome, call_at, outcome_at, before, written}
 
 -- how many rows a reasoner over this memory has
 abbrev pub rows_in : {G : Type 0} → List Row → List G → ℕ

@@ -1,8 +1,7 @@
 -- The choice of the next row.
-use Rattle.std.proofs.Common.{◌≡◌, ℕ, ◌+◌, ◌<◌, Bool, true, false, ◌⊎◌, get_or, Some, None, sym, refl, ap, ◌∙◌, inl, inr, ⊎_elim, arith, below_more}
+use Rattle.std.proofs.Common.{ℕ, ◌+◌, Some, None, ⊎_elim, arith, below_more}
 use Rattle.standpoint.specs.declared.statement.Statement.{Statement}
 use Rattle.standpoint.specs.Algebra.{Algebra, Laws, NoWorse}
-use Rattle.standpoint.specs.Statements.{Before}
 use Rattle.standpoint.proofs.Orders.{before_transitive, before_asymmetric}
 use Rattle.saturation.specs.Tables.{State, statement_at, OpenAt}
 use Rattle.saturation.specs.Choosing.{Ahead, RowAhead, Chosen}

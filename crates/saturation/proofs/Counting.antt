@@ -1,14 +1,12 @@
 -- How the counts of a table tell how the run stands.
-use Rattle.std.proofs.Common.{◌≡◌, ℕ, zero, suc, ◌+◌, ◌<◌, ◌≤◌, ◌⊎◌, List, [], ◌∷◌, length, Some, sym, refl, ap, ◌∙◌, subst, inl, inr, ⊎_elim, arith}
+use Rattle.std.proofs.Common.{◌≡◌, ℕ, zero, suc, ◌<◌, ◌≤◌, ◌⊎◌, List, [], ◌∷◌, length, Some, sym, refl, ap, ◌∙◌, subst, inl, inr, ⊎_elim, arith}
 use Rattle.std.specs.List.{slice_get}
 use Rattle.standpoint.specs.declared.statement.Statement.{Statement}
-use Rattle.standpoint.specs.Lists.{In, Distinct}
 use Rattle.standpoint.specs.Algebra.{Algebra}
 use Rattle.standpoint.specs.Derivations.{Base}
 use Rattle.runs.specs.Runs.{Settled, Known, Unsettled, AllSettled, StandsFull}
 use Rattle.runs.proofs.Distinct.{in_nth}
 use Rattle.saturation.specs.Tables.{State, row_at, statement_at, turn_at, OpenAt, capacity}
-use Rattle.saturation.specs.Searching.{Lists}
 use Rattle.saturation.specs.Saturation.{Holds}
 use Rattle.saturation.proofs.Offers.{below_or, equal_or, last_or}
 use Rattle.saturation.proofs.Lists.{Fit}

@@ -1,11 +1,11 @@
 -- The loops of a search find each offer that uses the newest settled statement.
-use Rattle.std.proofs.Common.{◌≡◌, ℕ, ◌+◌, ◌<◌, ◌≤◌, Bool, true, false, ◌⊎◌, List, [], ◌∷◌, length, sym, refl, ap, ◌∙◌, subst, inl, inr, ⊎_elim, arith}
+use Rattle.std.proofs.Common.{◌≡◌, ℕ, ◌+◌, ◌<◌, ◌≤◌, Bool, true, false, ◌⊎◌, List, [], ◌∷◌, length, sym, refl, ◌∙◌, subst, inl, inr, ⊎_elim, arith}
 use Rattle.std.proofs.lemmas.Bool.Decides.{nat_tests}
 use Rattle.standpoint.specs.declared.statement.Statement.{Statement}
 use Rattle.standpoint.specs.declared.premises.Beside.TheVariants as beside
 use Rattle.standpoint.specs.Lists.{In, Tells}
 use Rattle.standpoint.specs.Algebra.{Algebra}
-use Rattle.standpoint.specs.Rules.{Rule, arity_of, HasArity, GoesWith}
+use Rattle.standpoint.specs.Rules.{Rule, arity_of, GoesWith}
 use Rattle.standpoint.proofs.Arities.{few_premises, has_arity}
 use Rattle.saturation.specs.declared.search.Position.{Position}
 use Rattle.saturation.specs.declared.search.Position.TheVariants.{First, Second, Third}

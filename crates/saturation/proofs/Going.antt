@@ -1,24 +1,22 @@
 -- From one turn to the run.
-use Rattle.std.proofs.Common.{◌≡◌, ℕ, zero, suc, ◌+◌, ◌<◌, ◌≤◌, Bool, true, false, ◌⊎◌, List, [], ◌∷◌, ◌++◌, length, get_or, Some, sym, refl, ap, ◌∙◌, subst, inl, inr, ⊎_elim, arith, length-append}
-use Rattle.std.specs.List.{slice_get}
+use Rattle.std.proofs.Common.{◌≡◌, ℕ, zero, suc, ◌<◌, ◌≤◌, false, List, [], ◌∷◌, ◌++◌, length, get_or, sym, refl, ap, ◌∙◌, subst, ⊎_elim, arith, length-append}
 use Rattle.std.proofs.lemmas.Bool.Decides.{nat_tests}
 use Rattle.standpoint.specs.declared.statement.Statement.{Statement}
-use Rattle.standpoint.specs.Lists.{In, Distinct}
+use Rattle.standpoint.specs.Lists.{In}
 use Rattle.standpoint.specs.Algebra.{Algebra}
 use Rattle.standpoint.specs.Derivations.{Base}
-use Rattle.runs.specs.Runs.{Settled, Offers, Known, Next, Run, AllSettled, StandsFull}
+use Rattle.runs.specs.Runs.{Settled, Offers, Known, Next, AllSettled, StandsFull}
 use Rattle.runs.specs.Runs.Run.{settles}
 use Rattle.runs.proofs.Offers.{in_offers}
 use Rattle.runs.proofs.Distinct.{apart_push, apart_distinct}
 use Rattle.runs.proofs.Distinct as lists
 use Rattle.saturation.specs.declared.turn.Turn.{Turn}
 use Rattle.saturation.specs.declared.turn.Turn.TheVariants as turn
-use Rattle.saturation.specs.Tables.{State, row_at, statement_at, turn_at, OpenAt, capacity}
-use Rattle.saturation.specs.Places.{Uses}
+use Rattle.saturation.specs.Tables.{State, row_at, statement_at, OpenAt, capacity}
 use Rattle.saturation.specs.Offering.{Apart}
-use Rattle.saturation.specs.Searching.{Lists, Stuck}
+use Rattle.saturation.specs.Searching.{Lists}
 use Rattle.saturation.specs.Turns.{FirstOffered, TookTurn, Turned}
-use Rattle.saturation.specs.Saturation.{Holds, HoldsFull, WentOn}
+use Rattle.saturation.specs.Saturation.{Holds, WentOn}
 use Rattle.saturation.proofs.Offers.{below_or, equal_or, in_same}
 use Rattle.saturation.proofs.Lists.{in_append_left, in_append_right, in_append_cases}
 use Rattle.saturation.proofs.Stepping.{in_getD, offers_up, offers_down, uses_offers, value_at}

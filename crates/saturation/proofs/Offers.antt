@@ -1,5 +1,5 @@
 -- One offer: what the writes make of the rows, and that they keep the best of what was offered.
-use Rattle.std.proofs.Common.{◌≡◌, ℕ, ◌+◌, ◌<◌, ◌≤◌, Bool, true, false, cond, ◌⊎◌, List, [], ◌∷◌, length, get_or, set, sym, refl, ap, ◌∙◌, subst, inl, inr, ⊎_elim, arith, length-set, get_or-set_other, get_or-set_same}
+use Rattle.std.proofs.Common.{◌≡◌, ℕ, ◌+◌, ◌<◌, ◌≤◌, Bool, true, false, cond, ◌⊎◌, List, ◌∷◌, length, get_or, sym, refl, ap, ◌∙◌, subst, inl, inr, ⊎_elim, arith, length-set, get_or-set_other, get_or-set_same}
 use borrow.Author.Tests.{both_ways}
 use Rattle.std.proofs.lemmas.Bool.Decides.{nat_tests, eqb_tells, leb_tells}
 use Rattle.standpoint.specs.Algebra.{Algebra, Laws}
@@ -9,9 +9,9 @@ use Rattle.saturation.specs.declared.row.Row.{Row}
 use Rattle.standpoint.specs.Lists.{In}
 use Rattle.standpoint.specs.Derivations.{Base}
 use Rattle.saturation.specs.Rows.{no_row}
-use Rattle.saturation.specs.Tables.{State, row_at, statement_at, Absent, Present, has_room, capacity, pushed, improved, rekept}
+use Rattle.saturation.specs.Tables.{State, row_at, statement_at, Absent, has_room, pushed, improved, rekept}
 use Rattle.saturation.specs.Places.{KeptRight}
-use Rattle.saturation.specs.Offering.{Apart, BestOf, Grown, Taken, RowsRight, Keeps}
+use Rattle.saturation.specs.Offering.{Apart, BestOf, Grown, Taken, Keeps}
 
 pub last_or : (i n : ℕ) → i < n + 1 → (i < n) ⊎ (i ≡ n)
 last_or i n h = ⊎_elim (λ t. inr t.1) (λ f. let ne = f.1 in inl (omega arith)) (eqb_tells i n)

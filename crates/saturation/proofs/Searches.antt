@@ -1,16 +1,14 @@
 -- Steps of a search, put together.
-use Rattle.std.proofs.Common.{◌≡◌, ℕ, ◌+◌, ◌<◌, ◌≤◌, Bool, true, false, ◌⊎◌, List, [], ◌∷◌, ◌++◌, length, Some, None, Option, sym, refl, ap, ◌∙◌, subst, inl, inr, ⊎_elim, append_assoc, arith}
+use Rattle.std.proofs.Common.{◌≡◌, ℕ, ◌+◌, ◌<◌, Bool, true, false, ◌⊎◌, List, [], ◌∷◌, ◌++◌, sym, refl, ap, ◌∙◌, subst, inl, inr, ⊎_elim, append_assoc, arith}
 use borrow.Author.Tests.{both_ways}
 use Rattle.standpoint.specs.declared.statement.Statement.{Statement}
-use Rattle.standpoint.specs.Lists.{In}
 use Rattle.standpoint.specs.Algebra.{Algebra}
-use Rattle.standpoint.specs.Rules.{Rule, Concluded}
-use Rattle.standpoint.specs.Derivations.{Base}
+use Rattle.standpoint.specs.Rules.{Rule}
 use Rattle.saturation.specs.declared.row.Kept.{Kept}
 use Rattle.saturation.specs.Tables.{State, statement_at, Absent, has_room}
 use Rattle.saturation.specs.Places.{Step, StandAt, statements_of, grades_of, joined, kept_of, kept_step}
-use Rattle.saturation.specs.Offering.{BestOf, Grown, Taken, Keeps}
-use Rattle.saturation.specs.Searching.{Lists, Enumerated, Stuck, NewFrom, Went}
+use Rattle.saturation.specs.Offering.{BestOf, Taken, Keeps}
+use Rattle.saturation.specs.Searching.{Lists, Enumerated, Went}
 use Rattle.saturation.proofs.Offers.{grown_refl, grown_trans, below_or, last_or}
 use Rattle.saturation.proofs.Lists.{in_append_left, in_append_right, in_append_cases, Fit, lists_grown}
 use Rattle.saturation.proofs.Stepping.{stand_same}

@@ -1,28 +1,15 @@
 -- One turn, put together.
-use Rattle.std.proofs.Common.{◌≡◌, ℕ, ◌+◌, ◌<◌, ◌≤◌, Bool, true, false, cond, eqb, ◌⊎◌, List, [], ◌∷◌, ◌++◌, length, get_or, take, set, Some, None, sym, refl, ap, ◌∙◌, subst, inl, inr, ⊎_elim, arith, length-append, length-set, get_or-set_other, get_or-set_same}
-use borrow.Author.Tests.{both_ways}
-use lib.Seq.{take-append-le, take-append_seam}
-use Rattle.std.proofs.lemmas.List.{get_or_append_left, get_or_push, get_or_default}
-use Rattle.std.proofs.lemmas.Bool.Decides.{nat_tests}
+use Rattle.std.proofs.Common.{◌≡◌, ℕ, ◌<◌, ◌≤◌, Bool, List, [], ◌∷◌, ◌++◌, length, Some, sym, ap, ◌∙◌, subst, arith, length-set}
 use Rattle.standpoint.specs.declared.statement.Statement.{Statement}
-use Rattle.standpoint.specs.Lists.{In}
-use Rattle.standpoint.specs.Algebra.{Algebra, Laws, NoWorse}
-use Rattle.standpoint.specs.Statements.{Before}
-use Rattle.standpoint.specs.Derivations.{Base}
-use Rattle.standpoint.proofs.Orders.{before_total}
-use Rattle.runs.specs.Runs.{Unsettled}
-use Rattle.saturation.specs.declared.row.Row.{Row}
-use Rattle.saturation.specs.declared.row.Kept.{Kept}
-use Rattle.saturation.specs.Rows.{no_row}
-use Rattle.saturation.specs.Tables.{State, row_at, statement_at, turn_at, OpenAt, turned, placed, with_row, with_turn, with_place, settled_row}
-use Rattle.saturation.specs.Places.{KeptRight, Uses}
-use Rattle.saturation.specs.Offering.{Apart, BestOf, Grown, RowsRight, Explained}
-use Rattle.saturation.specs.Searching.{Premise, Lists, Enumerated, Stuck, Went, NewFrom}
-use Rattle.saturation.specs.Choosing.{Ahead, Chosen}
-use Rattle.saturation.specs.Turns.{FirstOffered, TookTurn}
-use Rattle.saturation.proofs.Offers.{last_or, equal_or, in_same, same_right}
-use Rattle.saturation.proofs.Lists.{Fit, lists_grown, turn_kept}
-use Rattle.saturation.proofs.Stepping.{kept_up, value_at, in_stands, in_getD}
+use Rattle.standpoint.specs.Algebra.{Algebra, Laws}
+use Rattle.saturation.specs.Tables.{State, statement_at, OpenAt, settled_row}
+use Rattle.saturation.specs.Places.{Uses}
+use Rattle.saturation.specs.Offering.{Apart, BestOf, RowsRight, Explained}
+use Rattle.saturation.specs.Searching.{Lists, Enumerated, Stuck, Went}
+use Rattle.saturation.specs.Choosing.{Chosen}
+use Rattle.saturation.specs.Turns.{TookTurn}
+use Rattle.saturation.proofs.Lists.{Fit, lists_grown}
+use Rattle.saturation.proofs.Stepping.{value_at}
 use Rattle.saturation.proofs.Opening.{next_chosen, open_room}
 use Rattle.saturation.proofs.Settling.{settled_lists, settled_best, settled_apart, settled_statements, settled_right, settled_explained, explained_grown}
 

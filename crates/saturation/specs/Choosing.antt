@@ -1,5 +1,5 @@
 -- Which row is settled next.
-use Rattle.std.specs.Prelude.{◌≡◌, ℕ, ◌<◌, List, get_or, Some, None, Option, slice_index_or}
+use Rattle.std.specs.Prelude.{ℕ, ◌<◌, List, get_or, Some, None, Option, slice_index_or}
 use Rattle.standpoint.specs.declared.statement.Statement.{Statement}
 use Rattle.standpoint.specs.Algebra.{Algebra, NoWorse}
 use Rattle.standpoint.specs.Statements.{Before}

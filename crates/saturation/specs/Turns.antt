@@ -10,7 +10,7 @@ use Rattle.saturation.specs.declared.turn.Turn.{Turn}
 use Rattle.saturation.specs.declared.turn.Turn.TheVariants.{Nothing, Settled, Overflowed}
 use Rattle.saturation.specs.Tables.{State, statement_at, OpenAt}
 use Rattle.saturation.specs.Places.{Uses}
-use Rattle.saturation.specs.Offering.{Apart, BestOf, Grown, RowsRight, Explained}
+use Rattle.saturation.specs.Offering.{Apart, BestOf, RowsRight, Explained}
 use Rattle.saturation.specs.Searching.{Lists, Enumerated, Stuck, NewFrom}
 
 -- of all that is offered and unsettled, o has the best grade, and among equals the least statement

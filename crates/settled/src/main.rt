@@ -9,6 +9,7 @@ use standpoint::{Kind, Letter, Odds, Refusal, Statement, Tally};
 use std::alloc::AllocError;
 use std::io;
 use std::io::{BufWriter, Read, Write};
+use std::process::ExitCode;
 
 const ROWS: usize = 4096;
 
@@ -101,12 +102,20 @@ fn run<K: StoredKind>(rt: &HostRuntime, kind: &K, file: &[u8]) -> Result<(), Sto
 }
 
 // One byte more than the longest sound file is enough to refuse a longer one.
-fn main(rt: HostRuntime) -> Result<(), Stop> {
+fn run_input(rt: &HostRuntime) -> Result<(), Stop> {
     let mut file = Vec::new(rt.alloc());
     rt.stdin().take(LONGEST_FILE + 1).read_to_end(&mut file)?;
     match file.get(4).copied() {
-        Some(b'L') => run(&rt, &Letter, &file),
-        Some(b'O') => run(&rt, &Odds, &file),
-        _ => run(&rt, &Tally, &file),
+        Some(b'L') => run(rt, &Letter, &file),
+        Some(b'O') => run(rt, &Odds, &file),
+        _ => run(rt, &Tally, &file),
+    }
+}
+
+// A stop is told by the status alone.
+fn main(rt: HostRuntime) -> ExitCode {
+    match run_input(&rt) {
+        Ok(()) => ExitCode::SUCCESS,
+        Err(_) => ExitCode::FAILURE,
     }
 }

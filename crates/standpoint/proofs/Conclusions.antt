@@ -1,5 +1,5 @@
 -- The functions of the rules are what the rules say.
-use Rattle.std.proofs.Common.{◌≡◌, ℕ, ◌+◌, Bool, true, false, cond, ◌&&◌, eqb, ltb, leb, List, [], ◌∷◌, Some, None, Option, sym, refl, ◌∙◌, subst, arith, ltb-true, lt-ltb, le-leb, leb-true}
+use Rattle.std.proofs.Common.{◌≡◌, ℕ, ◌+◌, Bool, true, false, cond, ◌&&◌, eqb, ltb, leb, List, [], ◌∷◌, Some, None, Option, sym, refl, subst, arith, ltb-true, lt-ltb, le-leb, leb-true}
 use Rattle.standpoint.specs.declared.statement.Statement.{Statement}
 use Rattle.standpoint.specs.declared.premises.Premises.{Premises}
 use Rattle.standpoint.specs.declared.premises.Premises.TheVariants.{One, Two, Three}

@@ -1,5 +1,5 @@
 -- Which two premises can go together in a rule of three.
-use Rattle.std.proofs.Common.{◌≡◌, ℕ, Bool, true, false, cond, ◌&&◌, eqb, [], ◌∷◌, sym, subst, arith}
+use Rattle.std.proofs.Common.{◌≡◌, ℕ, Bool, true, cond, ◌&&◌, eqb, [], ◌∷◌, sym, subst, arith}
 use Rattle.standpoint.specs.declared.statement.Statement.{Statement}
 use Rattle.standpoint.specs.declared.premises.Beside.{Beside}
 use Rattle.standpoint.specs.declared.premises.Beside.TheVariants.{Second, Third}

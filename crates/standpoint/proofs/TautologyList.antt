@@ -1,10 +1,10 @@
 -- The list of tautologies has each once, and the test finds them.
-use Rattle.std.proofs.Common.{◌≡◌, ℕ, ◌+◌, ◌-◌, ◌*◌, ◌<◌, ◌≤◌, Bool, true, false, cond, ◌&&◌, ◌||◌, eqb, ltb, ◌⊎◌, List, ◌++◌, map, length, Some, None, Option, sym, refl, ap, ◌∙◌, subst, inl, inr, arith, ltb-true, lt-ltb}
+use Rattle.std.proofs.Common.{◌≡◌, ℕ, ◌+◌, ◌-◌, ◌<◌, ◌≤◌, Bool, true, cond, ◌&&◌, ◌||◌, eqb, ltb, List, map, length, sym, refl, ◌∙◌, subst, inl, inr, arith, ltb-true, lt-ltb}
 use native.Mathlib.Decide.{ℕ_discrete}
 use Rattle.std.proofs.lemmas.List.FromFn.{length-map-range_with_len}
 use Rattle.std.proofs.lemmas.List.{length-append}
 use Rattle.std.proofs.lemmas.Bool.Decides.{nat_tests}
-use Rattle.std.specs.List.{slice_get, range_with_len}
+use Rattle.std.specs.List.{range_with_len}
 use Rattle.standpoint.specs.declared.sizes.Sizes.{Sizes}
 use Rattle.standpoint.specs.declared.statement.Statement.{Statement}
 use Rattle.standpoint.specs.Lists.{Tells, In}
@@ -13,7 +13,7 @@ use Rattle.standpoint.specs.Rules.{Tautology}
 use Rattle.standpoint.specs.Rules.Tautology.{sharper_than_all, sharper_than_itself, within_itself, within_top, role_within_itself}
 use Rattle.standpoint.specs.Tautologies.{tautologies, ListsTautologies, on_standpoints, on_concepts, on_roles}
 use Rattle.standpoint.proofs.Testing.{same_true, same_refl, and_true, or_true, told}
-use Rattle.standpoint.proofs.Listing.{in_left, in_right, in_either, in_stretch, of_stretch, nth_part, nth_stretch, Placed, placed_part, placed_stretch, placed_distinct}
+use Rattle.standpoint.proofs.Listing.{in_left, in_right, in_either, in_stretch, of_stretch, Placed, placed_part, placed_stretch, placed_distinct}
 
 module _ (n : Sizes) where
   abbrev all_sharper : List Statement

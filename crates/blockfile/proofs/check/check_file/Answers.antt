@@ -1,4 +1,4 @@
-use Rattle.std.proofs.Common.{ℕ, Ok, Err, subst}
+use Rattle.std.proofs.Common.{ℕ, Err, subst}
 use Rattle.std.proofs.lemmas.Result.{err_from_is_err_and}
 use Rattle.blockfile.specs.declared.fault.LoadFault.TheVariants.{InBlock}
 use Rattle.blockfile.specs.Layout.{Whole, SoundBelow}

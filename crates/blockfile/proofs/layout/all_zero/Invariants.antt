@@ -1,4 +1,3 @@
-use Rattle.std.proofs.Common.{◌<◌}
 use Rattle.blockfile.specs.Layout.{Zeros}
 use Rattle.blockfile.proofs.layout.all_zero.Given as goal
 

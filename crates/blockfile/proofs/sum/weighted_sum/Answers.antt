@@ -1,4 +1,4 @@
-use Rattle.std.proofs.Common.{◌+◌, ◌*◌, ◌<◌, ◌≤◌, arith, rules}
+use Rattle.std.proofs.Common.{◌+◌, ◌*◌, ◌≤◌, arith, rules}
 use Rattle.blockfile.proofs.Weights.{weighted_more, weighted_all, small}
 use Rattle.blockfile.proofs.sum.weighted_sum.Goals as goal
 

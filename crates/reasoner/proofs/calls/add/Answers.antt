@@ -1,6 +1,4 @@
-use Rattle.std.proofs.Common.{◌≡◌, ℕ, Bool, true, false, sym, refl, ap, ◌∙◌, subst, arith, rules}
-use Rattle.standpoint.specs.declared.refusal.Refusal.{Refusal}
-use Rattle.standpoint.specs.declared.refusal.Refusal.TheVariants.{NotBegun, Sealed, DoesNotFit, MisplacedIndividual, RowsTaken}
+use Rattle.std.proofs.Common.{◌≡◌, ℕ, refl, ap, ◌∙◌, subst, arith, rules}
 use Rattle.standpoint.specs.declared.sizes.Sizes.{Sizes}
 use Rattle.standpoint.specs.Refusals.{number_of}
 use Rattle.standpoint.specs.Statements.{Fits}

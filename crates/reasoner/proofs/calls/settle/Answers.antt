@@ -1,4 +1,4 @@
-use Rattle.std.proofs.Common.{◌≡◌, true, false, [], sym, refl, ap, ◌∙◌}
+use Rattle.std.proofs.Common.{true, false, [], ap, ◌∙◌}
 use borrow.Author.Tests.{both_ways}
 use Rattle.saturation.specs.declared.table.Phase.{Phase}
 use Rattle.saturation.specs.Tables.{sealed_phase, capacity}

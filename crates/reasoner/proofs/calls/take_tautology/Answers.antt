@@ -1,4 +1,4 @@
-use Rattle.std.proofs.Common.{◌≡◌, ap, subst}
+use Rattle.std.proofs.Common.{subst}
 use Rattle.saturation.specs.Tables.{view}
 use Rattle.saturation.specs.Rows.{kept}
 use Rattle.saturation.specs.Offering.{Taken, Keeps}

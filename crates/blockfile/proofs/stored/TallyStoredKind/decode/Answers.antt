@@ -1,4 +1,4 @@
-use Rattle.std.proofs.Common.{sym, ap, arith}
+use Rattle.std.proofs.Common.{sym, ap}
 use Rattle.standpoint.specs.Grades.{tally_grade}
 use Rattle.blockfile.specs.Codes.{or_no_grade}
 use Rattle.blockfile.specs.Coded.{bounded_some}

@@ -1,8 +1,6 @@
-use Rattle.std.proofs.Common.{true, false, List, length, refl}
-use Rattle.saturation.specs.declared.search.Position.{Position}
 use Rattle.saturation.specs.declared.search.Position.TheVariants.{First, Second, Third}
 use Rattle.saturation.specs.Tables.{view}
-use Rattle.saturation.specs.Searching.{Triples, AllTriples}
+use Rattle.saturation.specs.Searching.{AllTriples}
 use Rattle.saturation.proofs.Sameness.{same_then}
 use Rattle.saturation.proofs.Searches.{went_then, went_stopped}
 use Rattle.saturation.proofs.Enumerating.{Using, ThirdOf}

@@ -1,4 +1,4 @@
-use Rattle.std.proofs.Common.{◌≡◌, sym, ◌∙◌, arith, rules}
+use Rattle.std.proofs.Common.{◌≡◌, sym, ◌∙◌, rules}
 use Rattle.standpoint.specs.Rules.{arity_of}
 use Rattle.saturation.specs.Tables.{view}
 use Rattle.saturation.proofs.Enumerating.{around_single, around_pair, around_triples, around_elsewhere, around_nothing}

@@ -1,4 +1,4 @@
-use Rattle.std.proofs.Common.{None, subst}
+use Rattle.std.proofs.Common.{subst}
 use Rattle.saturation.specs.Tables.{view}
 use Rattle.saturation.specs.Choosing.{Chosen}
 use Rattle.saturation.proofs.Choosing.{first_taken, first_left, first_alone}

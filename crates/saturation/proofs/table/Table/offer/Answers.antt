@@ -1,6 +1,6 @@
-use Rattle.std.proofs.Common.{refl, rules}
+use Rattle.std.proofs.Common.{refl}
 use Rattle.saturation.specs.Tables.{view}
-use Rattle.saturation.proofs.Offers.{taken_pushed, taken_improved, taken_left, keeps_pushed, keeps_improved}
+use Rattle.saturation.proofs.Offers.{taken_pushed, taken_improved, keeps_pushed, keeps_improved}
 use Rattle.saturation.proofs.table.Table.offer.Goals as goal
 
 pub returns-in_default : goal.returns-in_default

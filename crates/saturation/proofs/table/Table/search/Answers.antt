@@ -1,4 +1,4 @@
-use Rattle.std.proofs.Common.{◌+◌, ◌<◌, ◌≤◌, Bool, true, false, sym, refl, subst, arith, rules}
+use Rattle.std.proofs.Common.{◌≤◌, Bool, true, false, sym, refl, subst, arith}
 use Rattle.saturation.specs.Tables.{view}
 use Rattle.saturation.specs.Searching.{Went, Around}
 use Rattle.saturation.proofs.Sameness.{same_then}

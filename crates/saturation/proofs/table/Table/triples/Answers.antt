@@ -1,11 +1,11 @@
-use Rattle.std.proofs.Common.{ℕ, ◌+◌, ◌<◌, Bool, true, List, length, sym, refl, subst, arith, rules}
+use Rattle.std.proofs.Common.{ℕ, ◌+◌, Bool, List, length, sym, subst, arith, rules}
 use Rattle.saturation.specs.Tables.{view}
 use Rattle.saturation.specs.Places.{Step}
 use Rattle.saturation.specs.Searching.{Went, Triples, arranged, SettledPlaces}
 use Rattle.saturation.proofs.Reading.{premises_stand}
-use Rattle.saturation.proofs.Searches.{Below, went_start}
+use Rattle.saturation.proofs.Searches.{Below}
 use Rattle.saturation.proofs.Sameness.{same_then}
-use Rattle.saturation.proofs.Enumerating.{Triple, Using, settled_arranged, in_arranged, went_triple, went_triples, went_never, went_refused, went_broken}
+use Rattle.saturation.proofs.Enumerating.{Triple, Using, settled_arranged, in_arranged, went_triple, went_triples, went_never, went_broken}
 use Rattle.saturation.proofs.table.Table.triples.Goals as goal
 
 pub returns-then-not-may_go : goal.returns-then-not-may_go

@@ -1,4 +1,4 @@
-use Rattle.std.proofs.Common.{◌≡◌, ◌/◌, ◌++◌, length, decimal, refl, ap, ◌∙◌, arith, rules}
+use Rattle.std.proofs.Common.{◌≡◌, ◌/◌, ◌++◌, length, decimal, refl, ap, ◌∙◌, arith}
 use Rattle.settled_text.specs.Text.{text}
 use Rattle.settled_text.specs.declared.line.Line.{Line}
 use Rattle.settled_text.proofs.Spelled.{length_step, last_digit, only_digit}
