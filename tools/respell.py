@@ -18,7 +18,8 @@ CHAR = r"[^\s(){}\[\];,.:λ\"`«»∷≡×]"
 NAME = re.compile(CHAR + "+")
 # A file of lemmas has the name of its fact; a variable has the name of a field, which is always read as t.grades_fit.
 TOGETHER = {"OneAnswer", "OneRun", "ButMarks", "grades_fit"}
-HYPHENED = re.compile(r"^[A-Za-z][\w']*(?:-[\w']+)+$")
+# port.py leaves a type that a library also spells with an underscore, as Laid_out.
+HYPHENED = re.compile(r"^(?:[A-Za-z][\w']*(?:-[\w']+)+|[A-Z][a-z]+(?:_[a-z]+)+)$")
 
 
 def files(top, endings):
@@ -77,7 +78,7 @@ def of_kit():
 
 def respelled(name):
     if name[0].isupper():
-        return "".join(part[:1].upper() + part[1:] for part in name.split("-"))
+        return "".join(part[:1].upper() + part[1:] for part in re.split("[-_]", name))
     return name.replace("-", "_")
 
 

@@ -12,7 +12,7 @@ use Rattle.blockfile.specs.declared.fault.BlockFault.{BlockFault}
 use Rattle.blockfile.specs.declared.fault.BlockFault.TheVariants.{Sum, Layout, Begin, InRecord}
 use Rattle.blockfile.specs.declared.fault.LoadFault.{LoadFault}
 use Rattle.blockfile.specs.declared.fault.LoadFault.TheVariants.{Length, InBlock}
-use Rattle.blockfile.specs.Layout.{Summed, Laid_out, SoundBelow, Sound, Whole, NotWhole, block_of, sizes_in}
+use Rattle.blockfile.specs.Layout.{Summed, LaidOut, SoundBelow, Sound, Whole, NotWhole, block_of, sizes_in}
 
 abbrev pub report : Refusal → Layer → ℕ → ℕ → FaultReport
 report why layer block place = record { why = why; layer = layer; block = block; place = place }
@@ -29,7 +29,7 @@ report_of (InBlock (InRecord (Add block place why))) = report why Record block p
 -- why the block of this number is not sound: its sum is tested first
 abbrev pub BlockFaulty : ℕ → ℕ → List ℕ → BlockFault → Type 0
 BlockFaulty letter number block (Sum b) = (b ≡ number) × (Summed block → ⊥)
-BlockFaulty letter number block (Layout b) = (b ≡ number) × Summed block × (Laid_out letter number block → ⊥)
+BlockFaulty letter number block (Layout b) = (b ≡ number) × Summed block × (LaidOut letter number block → ⊥)
 BlockFaulty letter number block (Begin why) = ⊥
 BlockFaulty letter number block (InRecord f) = ⊥
 

@@ -54,11 +54,11 @@ Filled zero block = FirstFilled block
 Filled (suc n) block = LaterFilled block
 
 -- all but the sum is as it has to be in the block of this number
-abbrev pub Laid_out : ℕ → ℕ → List ℕ → Type 0
-Laid_out letter number block = Headed letter number block × Filled number block
+abbrev pub LaidOut : ℕ → ℕ → List ℕ → Type 0
+LaidOut letter number block = Headed letter number block × Filled number block
 
 abbrev pub SoundBlock : ℕ → ℕ → List ℕ → Type 0
-SoundBlock letter number block = Summed block × Laid_out letter number block
+SoundBlock letter number block = Summed block × LaidOut letter number block
 
 -- the first n blocks are sound
 abbrev pub SoundBelow : ℕ → List ℕ → ℕ → Type 0

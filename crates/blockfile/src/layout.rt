@@ -1,12 +1,12 @@
 // The layout of a block, all but its sum.
 ghost use Rattle.std.specs.Prelude.{◌≡◌, ◌≤◌, length};
 ghost use Rattle.standpoint.specs.Lists.{Tells};
-ghost use Rattle.blockfile.specs.Layout.{Zeros, Headed, FirstFilled, Tails, LaterFilled, Laid_out};
+ghost use Rattle.blockfile.specs.Layout.{Zeros, Headed, FirstFilled, Tails, LaterFilled, LaidOut};
 
 // Whether all but the sum is as it has to be in the block of this number.
 pub(crate) fn laid_out(block: &[u8], kind_byte: u8, number: u16) -> bool
     requires { length block.now ≡ 512 }
-    ensures { Tells result (Laid_out kind_byte number block.now) }
+    ensures { Tells result (LaidOut kind_byte number block.now) }
 {
     if !headed(block, kind_byte, number) {
         return false;

@@ -36,7 +36,7 @@ settled_in (not_yet none asleep) = []
 settled_in (begun l some holding count) = l
 
 -- what is settled stays settled, over the same base, until the next begin
-pub record Goes_on {G : Type 0} (a : Algebra G) {p : Past G} {s : Table G} (old : Tied a p s) (q : Past G) (t : Table G) : Type 0 where
+pub record GoesOn {G : Type 0} (a : Algebra G) {p : Past G} {s : Table G} (old : Tied a p s) (q : Past G) (t : Table G) : Type 0 where
   pub tied : Tied a q t
   pub begins : p.begins ≤ q.begins
   pub stays : q.begins ≡ p.begins → (o : Statement × G) → In (settled_in old) o → In (settled_in tied) o × (q.base ≡ p.base)
@@ -48,7 +48,7 @@ module _ {G : Type 0} (a : Algebra G) where
   unchanged_holding {b} {s} {t} {l} same (standing (is, range, h)) = standing (same.1 ∙ is, range, subst (λ (z : State G). HoldsFull a b l z) (sym same.0) h)
 
   -- a call that changes nothing
-  still : {p : Past G} {s t : Table G} (old : Tied a p s) → Unchanged s t → Goes_on a old p t
+  still : {p : Past G} {s t : Table G} (old : Tied a p s) → Unchanged s t → GoesOn a old p t
   still (not_yet none asleep) same = record {
     tied = not_yet none (ap (λ (z : Phase). z.begun) same.1 ∙ asleep);
     begins = omega arith;
@@ -60,7 +60,7 @@ module _ {G : Type 0} (a : Algebra G) where
     stays = λ e o m. (m, refl);
   }
 
-  begin_on : {p : Past G} {s t : Table G} (old : Tied a p s) (n : Sizes) (r : Result (Unit {0}) Refusal) → Begun a n s t r → Goes_on a old (after p (Begin n) (as_outcome (λ _. Began) r)) t
+  begin_on : {p : Past G} {s t : Table G} (old : Tied a p s) (n : Sizes) (r : Result (Unit {0}) Refusal) → Begun a n s t r → GoesOn a old (after p (Begin n) (as_outcome (λ _. Began) r)) t
   begin_on old n (Ok _) made = record {
     tied = begun [] (omega arith) (taking made.2) refl;
     begins = omega arith;
@@ -75,7 +75,7 @@ module _ {G : Type 0} (a : Algebra G) where
   accepted_on x g free more (going h) = absurd (both_ways _ free (ap (λ (z : Phase). z.sealed) h.0))
   accepted_on x g free more (standing h) = absurd (both_ways _ free (ap (λ (z : Phase). z.sealed) h.0))
 
-  add_on : {p : Past G} {s t : Table G} (old : Tied a p s) (x : Statement) (g : G) (r : Result (Unit {0}) Refusal) → Adds a x g s t r → Goes_on a old (after p (Add x g) (as_outcome (λ _. Added) r)) t
+  add_on : {p : Past G} {s t : Table G} (old : Tied a p s) (x : Statement) (g : G) (r : Result (Unit {0}) Refusal) → Adds a x g s t r → GoesOn a old (after p (Add x g) (as_outcome (λ _. Added) r)) t
   add_on (not_yet none asleep) x g (Ok _) made = absurd (both_ways _ asleep made.0)
   add_on (begun l some holding count) x g (Ok _) made =
       let on = accepted_on x g made.1 made.4 holding in
@@ -104,7 +104,7 @@ module _ {G : Type 0} (a : Algebra G) where
       ([], sym w.0, subst (λ (z : runs.Settled G). Holding a b t z) (sym (append-nil l)) (standing w.2))
 
   settle_on : {p : Past G} {s t : Table G} (old : Tied a p s) (n : ℕ) (r : Result (ℕ × Stand) Refusal) → SettledSo a n s t r →
-      Goes_on a old (after p (Settle n) (as_outcome (λ (q : ℕ × Stand). Settled q.0 q.1) r)) t
+      GoesOn a old (after p (Settle n) (as_outcome (λ (q : ℕ × Stand). Settled q.0 q.1) r)) t
   settle_on (not_yet none asleep) n (Ok r) made = absurd (both_ways _ asleep made.0)
   settle_on {p} (begun l some holding count) n (Ok r) made =
       let on = settled_more n r.0 r.1 made.1 made.2 made.3 holding in
@@ -115,18 +115,18 @@ module _ {G : Type 0} (a : Algebra G) where
       }
   settle_on old n (Err e) made = still old made.0
 
-  ask_on : {p : Past G} {s t : Table G} (old : Tied a p s) (x : Statement) (r : Result (Answer G) Refusal) → Unchanged s t → Goes_on a old (after p (Ask x) (as_outcome Said r)) t
+  ask_on : {p : Past G} {s t : Table G} (old : Tied a p s) (x : Statement) (r : Result (Answer G) Refusal) → Unchanged s t → GoesOn a old (after p (Ask x) (as_outcome Said r)) t
   ask_on old x (Ok said) same = still old same
   ask_on old x (Err e) same = still old same
 
-  explain_on : {p : Past G} {s t : Table G} (old : Tied a p s) (x : Statement) (most : ℕ) (r : Result ℕ Refusal) → Unchanged s t → Goes_on a old (after p (Explain x most) (as_outcome Explained r)) t
+  explain_on : {p : Past G} {s t : Table G} (old : Tied a p s) (x : Statement) (most : ℕ) (r : Result ℕ Refusal) → Unchanged s t → GoesOn a old (after p (Explain x most) (as_outcome Explained r)) t
   explain_on old x most (Ok count) same = still old same
   explain_on old x most (Err e) same = still old same
 
   -- one call on
-  pub goes_on : {p : Past G} {s t : Table G} (old : Tied a p s) (call : Call G) (o : Outcome G) (room left : List (Step G)) → Performs a call o s t room left → Goes_on a old (after p call o) t
-  goes_on {p} {s} {t} old (Begin n) o room left (same, (r, is, made)) = subst (λ (z : Outcome G). Goes_on a old (after p (Begin n) z) t) (sym is) (begin_on old n r made)
-  goes_on {p} {s} {t} old (Add x g) o room left (same, (r, is, made)) = subst (λ (z : Outcome G). Goes_on a old (after p (Add x g) z) t) (sym is) (add_on old x g r made)
-  goes_on {p} {s} {t} old (Settle n) o room left (same, (r, is, made)) = subst (λ (z : Outcome G). Goes_on a old (after p (Settle n) z) t) (sym is) (settle_on old n r made)
-  goes_on {p} {s} {t} old (Ask x) o room left (same, unchanged, (r, is, made)) = subst (λ (z : Outcome G). Goes_on a old (after p (Ask x) z) t) (sym is) (ask_on old x r unchanged)
-  goes_on {p} {s} {t} old (Explain x most) o room left (unchanged, (r, is, made)) = subst (λ (z : Outcome G). Goes_on a old (after p (Explain x most) z) t) (sym is) (explain_on old x most r unchanged)
+  pub goes_on : {p : Past G} {s t : Table G} (old : Tied a p s) (call : Call G) (o : Outcome G) (room left : List (Step G)) → Performs a call o s t room left → GoesOn a old (after p call o) t
+  goes_on {p} {s} {t} old (Begin n) o room left (same, (r, is, made)) = subst (λ (z : Outcome G). GoesOn a old (after p (Begin n) z) t) (sym is) (begin_on old n r made)
+  goes_on {p} {s} {t} old (Add x g) o room left (same, (r, is, made)) = subst (λ (z : Outcome G). GoesOn a old (after p (Add x g) z) t) (sym is) (add_on old x g r made)
+  goes_on {p} {s} {t} old (Settle n) o room left (same, (r, is, made)) = subst (λ (z : Outcome G). GoesOn a old (after p (Settle n) z) t) (sym is) (settle_on old n r made)
+  goes_on {p} {s} {t} old (Ask x) o room left (same, unchanged, (r, is, made)) = subst (λ (z : Outcome G). GoesOn a old (after p (Ask x) z) t) (sym is) (ask_on old x r unchanged)
+  goes_on {p} {s} {t} old (Explain x most) o room left (unchanged, (r, is, made)) = subst (λ (z : Outcome G). GoesOn a old (after p (Explain x most) z) t) (sym is) (explain_on old x most r unchanged)

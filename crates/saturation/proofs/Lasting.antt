@@ -12,7 +12,7 @@ use Rattle.saturation.specs.declared.turn.Turn.{Turn}
 use Rattle.saturation.specs.declared.turn.Turn.TheVariants as turn
 use Rattle.saturation.specs.Tables.{State, capacity}
 use Rattle.saturation.specs.Turns.{Turned}
-use Rattle.saturation.specs.Saturation.{Holds, HoldsFull, HoldsAs, Goes_on, Settles}
+use Rattle.saturation.specs.Saturation.{Holds, HoldsFull, HoldsAs, GoesOn, Settles}
 use Rattle.saturation.proofs.Offers.{below_or}
 use Rattle.saturation.proofs.Lists.{Fit}
 use Rattle.saturation.proofs.Counting.{not_full, some_open, all_closed}
@@ -93,7 +93,7 @@ module _ {G : Type 0} (al : Algebra G) (v : ℕ) (s t u : State G) (k : ℕ) (fa
       subst (λ (n : ℕ). Settling al base rows n l ((later ++ o ∷ []) ++ rest)) number
       (subst (λ (z : Settled G). Settling al base rows (k + suc m) l z) (sym (append_assoc later (o ∷ []) rest)) all)
 
-  pub so_far_more : Goes_on al v t u turn.Settled → SoFar al v s u (k + 1)
+  pub so_far_more : GoesOn al v t u turn.Settled → SoFar al v s u (k + 1)
   so_far_more on base e l h =
       let f = far base e l h in
       let later = f.0 in
@@ -109,7 +109,7 @@ module _ {G : Type 0} (al : Algebra G) (v : ℕ) (s t u : State G) (k : ℕ) (fa
         ),
       )
 
-  pub so_far_ended : (n : ℕ) → k < n → Goes_on al v t u turn.Nothing → capacity u ≡ capacity t → u.len ≤ capacity u → Settles al v s u n k Ended
+  pub so_far_ended : (n : ℕ) → k < n → GoesOn al v t u turn.Nothing → capacity u ≡ capacity t → u.len ≤ capacity u → Settles al v s u n k Ended
   so_far_ended n below on cap-u fits-u base e l h =
       let rows = capacity s in
       let f = far base e l h in
@@ -119,7 +119,7 @@ module _ {G : Type 0} (al : Algebra G) (v : ℕ) (s t u : State G) (k : ℕ) (fa
       let stands : Stands al base rows (l ++ later) Ended = (not_yet, w.1) in
       (later, (f.1.0, (settled_by al base rows n k l later (omega arith) f.1.1.1 (inr stands), (stands, w.0))))
 
-  pub so_far_full : (n : ℕ) → k < n → Goes_on al v t u turn.Overflowed → capacity u ≡ capacity t → Settles al v s u n (k + 1) Full
+  pub so_far_full : (n : ℕ) → k < n → GoesOn al v t u turn.Overflowed → capacity u ≡ capacity t → Settles al v s u n (k + 1) Full
   so_far_full n below on cap-u base e l h =
       let rows = capacity s in
       let f = far base e l h in

@@ -39,8 +39,8 @@ WentOn {G} a base settled t turn.Settled = (x : Statement) × ((g : G) × (Next 
 WentOn {G} a base settled t turn.Overflowed = (x : Statement) × ((g : G) × (Next a base settled x g × HoldsFull a base (settled ++ (x, g) ∷ []) t))
 
 -- the same of any run that the rows hold, over as many individuals
-abbrev pub Goes_on : {G : Type 0} → Algebra G → ℕ → State G → State G → Turn → Type 0
-Goes_on {G} a individuals s t r = (base : Base G) → base.sizes.individuals ≡ individuals → (settled : Settled G) → Holds a base settled s → WentOn a base settled t r
+abbrev pub GoesOn : {G : Type 0} → Algebra G → ℕ → State G → State G → Turn → Type 0
+GoesOn {G} a individuals s t r = (base : Base G) → base.sizes.individuals ≡ individuals → (settled : Settled G) → Holds a base settled s → WentOn a base settled t r
 
 -- what the rows hold of a run that stands so
 abbrev pub HoldsAs : {G : Type 0} → Algebra G → Base G → Settled G → State G → Stand → Type 0

@@ -2,7 +2,7 @@
 ghost use Rattle.std.specs.Prelude.{◌≡◌, ◌≤◌, if◌then◌else◌, nat_le};
 ghost use Rattle.runs.specs.declared.Stand.TheVariants.{Open, Ended};
 ghost use Rattle.saturation.specs.Tables.{view, Same, capacity};
-ghost use Rattle.saturation.specs.Saturation.{Goes_on, Settles};
+ghost use Rattle.saturation.specs.Saturation.{GoesOn, Settles};
 
 use crate::table::Table;
 use crate::turn::Turn;
@@ -42,7 +42,7 @@ impl<'a, G: Copy> Table<'a, G> {
     fn go_on<K: Kind<Grade = G>>(&mut self, kind: &K) -> Turn
         ensures same { Same self.old self.new }
         ensures long { capacity (view self.new) ≡ capacity (view self.old) }
-        ensures run { Goes_on (K.Kind.algebra kind.now) self.old.phase.sizes.individuals (view self.old) (view self.new) result }
+        ensures run { GoesOn (K.Kind.algebra kind.now) self.old.phase.sizes.individuals (view self.old) (view self.new) result }
     {
         self.settle_one(kind)
     }

@@ -2,7 +2,7 @@ use Rattle.std.proofs.Common.{◌≡◌, ℕ, refl, ◌∙◌, subst, arith}
 use Rattle.saturation.specs.declared.table.Phase.{Phase}
 use Rattle.saturation.specs.declared.turn.Turn.TheVariants as turn
 use Rattle.saturation.specs.Tables.{view}
-use Rattle.saturation.specs.Saturation.{Goes_on}
+use Rattle.saturation.specs.Saturation.{GoesOn}
 use Rattle.saturation.proofs.Sameness.{same_then}
 use Rattle.saturation.proofs.Lasting.{SoFar, fits_capacity, so_far_none, so_far_more, so_far_ended, so_far_full, so_far_done}
 use Rattle.saturation.proofs.table.Table.settle.Goals as goal
@@ -19,7 +19,7 @@ returns-in-Nothing g c =
     let inv = c.loop-k.invariant in
     let fits = fits_capacity (view t) t.rows_fit t.grades_fit t.few in
     let u = c.go_on.new.self in
-    let on = subst (λ (p : Phase). Goes_on al p.sizes.individuals (view t) (view u) turn.Nothing) inv.0.2 c.in-Nothing.ensures.run in
+    let on = subst (λ (p : Phase). GoesOn al p.sizes.individuals (view t) (view u) turn.Nothing) inv.0.2 c.in-Nothing.ensures.run in
     record {
       same = same_then inv.0 c.go_on.ensures.same;
       long = c.go_on.ensures.long ∙ inv.1;
@@ -36,7 +36,7 @@ returns-in-Overflowed g c =
     let inv = c.loop-k.invariant in
     let fits = fits_capacity (view t) t.rows_fit t.grades_fit t.few in
     let u = c.go_on.new.self in
-    let on = subst (λ (p : Phase). Goes_on al p.sizes.individuals (view t) (view u) turn.Overflowed) inv.0.2 c.in-Overflowed.ensures.run in
+    let on = subst (λ (p : Phase). GoesOn al p.sizes.individuals (view t) (view u) turn.Overflowed) inv.0.2 c.in-Overflowed.ensures.run in
     record {
       same = same_then inv.0 c.go_on.ensures.same;
       long = c.go_on.ensures.long ∙ inv.1;
@@ -53,7 +53,7 @@ loop-k-preserved g c =
     let inv = c.loop-k.invariant in
     let fits = fits_capacity (view t) t.rows_fit t.grades_fit t.few in
     let u = c.go_on.new.self in
-    let on = subst (λ (p : Phase). Goes_on al p.sizes.individuals (view t) (view u) turn.Settled) inv.0.2 c.in-Settled.ensures.run in
+    let on = subst (λ (p : Phase). GoesOn al p.sizes.individuals (view t) (view u) turn.Settled) inv.0.2 c.in-Settled.ensures.run in
     (same_then inv.0 c.go_on.ensures.same, c.go_on.ensures.long ∙ inv.1, so_far_more al v (view s) (view t) (view u) c.loop-k.k inv.2 inv.1 fits on)
 
 pub returns : goal.returns
