@@ -1,11 +1,12 @@
-use Rattle.std.proofs.Common.{◌≡◌, ℕ, refl, ap, ◌∙◌, subst, arith, rules}
+use Rattle.std.proofs.Common.{◌≡◌, ℕ, Err, refl, ap, ◌∙◌, subst, arith, rules}
 use Rattle.standpoint.specs.declared.sizes.Sizes.{Sizes}
+use Rattle.standpoint.specs.declared.refusal.Refusal.TheVariants.{RowsTaken}
 use Rattle.standpoint.specs.Refusals.{number_of}
 use Rattle.standpoint.specs.Statements.{Fits}
 use Rattle.saturation.specs.declared.table.Phase.{Phase}
 use Rattle.saturation.specs.Tables.{view, capacity}
 use Rattle.saturation.proofs.Lasting.{same_capacity}
-use Rattle.reasoner.specs.Calls.{before_begin, after_settle, misfit, individual, no_row}
+use Rattle.reasoner.specs.Calls.{Adds, before_begin, after_settle, misfit, individual, no_row}
 use Rattle.reasoner.proofs.Adding.{accepted_more, taken_all}
 use Rattle.reasoner.proofs.calls.add.Goals as goal
 
@@ -63,12 +64,9 @@ returns-else-offer g c =
     let s = c.args.reasoner.now in
     let same = c.offer.ensures.same in
     let none = c.if-offer.ensures.state.refused refl in
-    record {
-      memory = (same.0, same.1);
-      long = ap capacity none.0;
-      answer = (
-        (none.0, same.2),
-        no_row c.if-not-reasoner.false c.if-reasoner.false c.if-not-fits.ensures c.if-misplaced.ensures none.1 none.2,
-        λ b h e. taken_all al b c.args.statement c.args.grade (view s) h.2 s.grades_fit none.1 none.2,
-      );
-    }
+    let refused : Adds al c.args.statement c.args.grade s c.offer.new.self (Err RowsTaken) = (
+      (none.0, same.2),
+      no_row c.if-not-reasoner.false c.if-reasoner.false c.if-not-fits.ensures c.if-misplaced.ensures none.1 none.2,
+      λ b h e. taken_all al b c.args.statement c.args.grade (view s) h.2 s.grades_fit none.1 none.2,
+    ) in
+    record { memory = (same.0, same.1); long = ap capacity none.0; answer = refused }

@@ -1,7 +1,8 @@
-use Rattle.std.proofs.Common.{true, false, [], ap, ◌∙◌}
+use Rattle.std.proofs.Common.{◌≡◌, true, false, [], ap, ◌∙◌}
 use borrow.Author.Tests.{both_ways}
 use Rattle.saturation.specs.declared.table.Phase.{Phase}
 use Rattle.saturation.specs.Tables.{sealed_phase, capacity}
+use Rattle.reasoner.specs.Calls.{is_full}
 use Rattle.reasoner.proofs.Sealing.{settled_on}
 use Rattle.reasoner.proofs.calls.settle.Goals as goal
 
@@ -15,7 +16,7 @@ returns g c =
     let one = c.seal.ensures.memory in
     let two = c.settle-count.ensures.same in
     let three = c.seal-2.ensures.memory in
-    let last = c.seal-2.ensures.phase ∙ ap (sealed_phase u.phase) c.stands_full.ensures in
+    let last : v.phase ≡ sealed_phase u.phase (is_full c.settle-count.result.1) = cc c.seal-2.ensures.phase in
     let on = settled_on al c.args.n c.settle-count.result.0 c.settle-count.result.1 s t u v c.seal.ensures.state c.seal.ensures.phase two c.settle-count.ensures.run c.seal-2.ensures.state last in
     record {
       memory = (three.0 ∙ two.0 ∙ one.0, three.1 ∙ two.1 ∙ one.1);
