@@ -6,6 +6,7 @@ pub mod Choosing
 pub mod Stepping
 pub mod Reading
 pub mod Searches
+pub mod Links
 pub mod Enumerating
 pub mod Pigeons
 pub mod Opening

@@ -1,5 +1,5 @@
 -- What a search offers.
-use Rattle.std.specs.Prelude.{◌≡◌, ℕ, ◌+◌, ◌<◌, ◌≤◌, Bool, true, false, ◌⊎◌, List, [], ◌∷◌, ◌++◌, length, slice_index_or}
+use Rattle.std.specs.Prelude.{◌≡◌, ◌==◌, ◌&&◌, ◌||◌, cond, ℕ, ◌+◌, ◌<◌, ◌≤◌, Bool, true, false, ◌⊎◌, List, [], ◌∷◌, ◌++◌, length, slice_index_or}
 use Rattle.standpoint.specs.declared.statement.Statement.{Statement}
 use Rattle.standpoint.specs.Lists.{In}
 use Rattle.standpoint.specs.Algebra.{Algebra}
@@ -58,6 +58,26 @@ pub record Went {G : Type 0} (a : Algebra G) (individuals : ℕ) (s t : State G)
   pub all : r ≡ true → (settled : List (Statement × G)) → Lists s settled → Enumerated a s t (Sure settled) (May settled)
   pub stuck : r ≡ false → (settled : List (Statement × G)) → Lists s settled → Stuck t (May settled)
   pub keeps : (base : Base G) → base.sizes.individuals ≡ individuals → (settled : List (Statement × G)) → Lists s settled → RowsRight a base settled s → RowsRight a base settled t
+
+-- the rule gives nothing from these premises
+abbrev pub GivesNothing : ℕ → List Statement → Type 0
+GivesNothing rule premises = (individuals : ℕ) (x : Statement) → Rule individuals rule premises x → ⊥
+
+-- two premises have the shapes that a rule with two premises asks for, and the name that links them
+abbrev pub linked : ℕ → Statement → Statement → Bool
+linked rule p q =
+    cond (rule == 1) (p.shape == 8 && (q.shape == 8 && p.third == q.second))
+    (cond (rule == 2) (p.shape == 1 && (q.shape == 1 && p.second == q.first))
+    (cond (rule == 4) (q.shape == 1 && p.first == q.second)
+    (cond (rule == 5) (q.shape == 1 && p.third == q.second)
+    (cond (rule == 6) (p.shape == 3 && (q.shape == 3 && p.fifth == q.fourth))
+    (cond (rule == 7 || rule == 10) (p.shape == 3 && (q.shape == 3 && p.fifth == q.second))
+    (cond (rule == 8 || rule == 11) (p.shape == 3 && (q.shape == 4 && p.fifth == q.second))
+    (cond (rule == 9) (p.shape == 4 && (q.shape == 3 && p.second == q.second))
+    (cond (rule == 12) (p.shape == 4 && (q.shape == 3 && p.fourth == q.second))
+    (cond (rule == 13) (p.shape == 4 && (q.shape == 4 && p.fourth == q.second))
+    (cond (rule == 16) (p.shape == 5 && (q.shape == 6 && p.fourth == q.third))
+    false))))))))))
 
 -- what is to be offered around the newest n and one other premise i, by a rule with two
 abbrev pub Pair : {G : Type 0} → Algebra G → ℕ → ℕ → ℕ → ℕ → List (Statement × G) → Statement × G → Type 0

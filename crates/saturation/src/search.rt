@@ -3,11 +3,11 @@ ghost use Rattle.std.specs.Prelude.{◌≡◌, ℕ, ◌<◌, ◌≤◌, true, fa
 ghost use Rattle.standpoint.specs.Rules.{listed};
 ghost use Rattle.saturation.specs.Tables.{view, Same, statement_at, turn_at};
 ghost use Rattle.saturation.specs.Places.{listed_places, statements_of, grades_of, joined, kept_of, Step, Uses};
-ghost use Rattle.saturation.specs.Searching.{premises_in, SettledPlaces, arranged, NeverGoes, Went, Pair, Triples, AllTriples, Around};
+ghost use Rattle.saturation.specs.Searching.{premises_in, SettledPlaces, GivesNothing, linked, arranged, NeverGoes, Went, Pair, Triples, AllTriples, Around};
 
 use crate::row::Kept;
 use crate::table::Table;
-use standpoint::{Beside, Kind, Premises, arity, conclude, may_meet};
+use standpoint::{Beside, Kind, Premises, Statement, arity, conclude, may_meet};
 
 // Settling places of premises, in joining order.
 #[derive(Clone, Copy)]
@@ -58,6 +58,26 @@ impl Position {
     }
 }
 
+// Whether two premises have the shapes that a rule with two premises asks for, and the name that links them.
+fn linked(rule: u8, p: Statement, q: Statement) -> bool
+    ensures { result ≡ linked rule p q }
+{
+    match rule {
+        1 => p.shape == 8 && q.shape == 8 && p.third == q.second,
+        2 => p.shape == 1 && q.shape == 1 && p.second == q.first,
+        4 => q.shape == 1 && p.first == q.second,
+        5 => q.shape == 1 && p.third == q.second,
+        6 => p.shape == 3 && q.shape == 3 && p.fifth == q.fourth,
+        7 | 10 => p.shape == 3 && q.shape == 3 && p.fifth == q.second,
+        8 | 11 => p.shape == 3 && q.shape == 4 && p.fifth == q.second,
+        9 => p.shape == 4 && q.shape == 3 && p.second == q.second,
+        12 => p.shape == 4 && q.shape == 3 && p.fourth == q.second,
+        13 => p.shape == 4 && q.shape == 4 && p.fourth == q.second,
+        16 => p.shape == 5 && q.shape == 6 && p.fourth == q.third,
+        _ => false,
+    }
+}
+
 impl<'a, G: Copy> Table<'a, G> {
     // The statements settled at these places.
     fn premises(&self, at: Places) -> Premises
@@ -92,6 +112,21 @@ impl<'a, G: Copy> Table<'a, G> {
         }
     }
 
+    // Whether the rule may give something from the premises settled at these places: a test that costs less than the rule.
+    fn may_give(&self, rule: u8, at: Places) -> bool
+        requires { SettledPlaces self.now.settled (listed_places at) }
+        ensures { result ≡ false → (d : G) → GivesNothing rule (statements_of (premises_in (view self.now) d (listed_places at))) }
+    {
+        match at {
+            Places::Two(i, j) => {
+                let p = self.settled_statement(i);
+                let q = self.settled_statement(j);
+                linked(rule, p, q)
+            }
+            _ => true,
+        }
+    }
+
     // Offers what the rule gives from the premises settled at these places.
     fn attempt<K: Kind<Grade = G>>(
         &mut self,
@@ -104,6 +139,9 @@ impl<'a, G: Copy> Table<'a, G> {
         ensures same { Same self.old self.new }
         ensures state { Went (K.Kind.algebra kind.now) individuals (view self.old) (view self.new) (λ l. Step (K.Kind.algebra kind.now) individuals l rule (listed_places at)) (λ l. Step (K.Kind.algebra kind.now) individuals l rule (listed_places at)) result }
     {
+        if !self.may_give(rule, at) {
+            return true;
+        }
         let premises = self.premises(at);
         let Some(x) = conclude(individuals, rule, premises) else {
             return true;

@@ -8,6 +8,16 @@ use Rattle.saturation.proofs.Reading.{premises_stand}
 use Rattle.saturation.proofs.Searches.{attempt_none, attempt_some}
 use Rattle.saturation.proofs.table.Table.attempt.Goals as goal
 
+pub returns-then-not-may_give : goal.returns-then-not-may_give
+returns-then-not-may_give g c =
+    let al = g.K.Kind.algebra c.args.kind.now in
+    let t = c.args.self.now in
+    let n = c.args.individuals in
+    let places = listed_places c.args.at in
+    let stands = premises_stand (view t) (t.settled_fit, t.turns) t.grades_fit al.start places c.requires in
+    let none = c.may_give.ensures c.if-not-may_give.true al.start n in
+    record { same = search rules; state = attempt_none al n (view t) c.args.rule places (premises_in (view t) al.start places) stands none }
+
 pub returns-in_default : goal.returns-in_default
 returns-in_default g c =
     let al = g.K.Kind.algebra c.args.kind.now in
