@@ -63,7 +63,7 @@ pub record Went {G : Type 0} (a : Algebra G) (individuals : ℕ) (s t : State G)
 abbrev pub GivesNothing : ℕ → List Statement → Type 0
 GivesNothing rule premises = (individuals : ℕ) (x : Statement) → Rule individuals rule premises x → ⊥
 
--- two premises have the shapes that a rule with two premises asks for, and the name that links them
+-- two premises pass a quick test of a rule with two, which those of the rule always pass: shapes that it asks for, and the name that links them
 abbrev pub linked : ℕ → Statement → Statement → Bool
 linked rule p q =
     cond (rule == 1) (p.shape == 8 && (q.shape == 8 && p.third == q.second))

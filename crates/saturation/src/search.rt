@@ -58,7 +58,7 @@ impl Position {
     }
 }
 
-// Whether two premises have the shapes that a rule with two premises asks for, and the name that links them.
+// Whether two premises pass a quick test of a rule with two: shapes that it asks for, not always all, and the name that links them.
 fn linked(rule: u8, p: Statement, q: Statement) -> bool
     ensures { result ≡ linked rule p q }
 {
