@@ -6,7 +6,7 @@ ghost use Rattle.runs.specs.Laws.{ModelSettles, NoneIsExact, OneRun, OneSettling
 use standpoint::Kind;
 
 // How a run stands.
-#[derive(Clone, Copy)]
+#[derive(Clone, Copy, PartialEq, Eq)]
 pub enum Stand {
     // A known statement is not settled yet.
     Open,

@@ -1,5 +1,5 @@
 -- Each rule has as many premises as its arity says.
-use Rattle.std.proofs.Common.{◌≡◌, ℕ, ◌≤◌, List, length, sym, refl, ◌∙◌, arith, lit≤}
+use Rattle.std.proofs.Common.{◌≡◌, ℕ, ◌<◌, ◌≤◌, ◌⊎◌, List, length, sym, refl, ◌∙◌, arith, lit≤}
 use Rattle.std.proofs.lemmas.Bool.Decides.{nat_tests}
 use Rattle.standpoint.specs.declared.statement.Statement.{Statement}
 use Rattle.standpoint.specs.Rules.{Rule, arity_of, HasArity}
@@ -39,3 +39,9 @@ few_premises {rule = rule} {premises = premises} h =
     let e = (arity_counts h).0 in
     let most : arity_of rule ≤ 3 = grind (arith, nat_tests) in
     ((arity_counts h).1, omega arith)
+
+pub no_rule : {i rule : ℕ} {premises : List Statement} → (rule ≡ 0) ⊎ (23 < rule) → (x : Statement) → Rule i rule premises x → ⊥
+no_rule {rule = rule} outside x h =
+    let counts = arity_counts h in
+    let none : arity_of rule ≡ 0 = grind (arith, nat_tests) in
+    absurd (let z : ⊥ = omega arith in z)

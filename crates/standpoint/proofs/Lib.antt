@@ -10,6 +10,7 @@ pub mod Lists
 pub mod Soundness
 pub mod Derived
 pub mod OneThing
+pub mod Earlier
 pub mod Trees
 pub mod Grounds
 pub mod Agreement

@@ -1,6 +1,7 @@
 -- Answers carried from one question to another, and scans of a list.
-use Rattle.std.proofs.Common.{◌≡◌, ℕ, zero, suc, ◌+◌, ◌<◌, ◌≤◌, Bool, true, false, List, [], ◌∷◌, length, get_or, sym, refl, ap, ◌∙◌, subst, inl, inr, ⊎_elim, arith, below_more}
-use Rattle.std.proofs.lemmas.List.{get_or_default}
+use Rattle.std.proofs.Common.{◌≡◌, ℕ, zero, suc, ◌-◌, ◌<◌, Bool, true, false, List, [], ◌∷◌, length, get_or, None, Some, Option, MatchBool, sym, refl, ap, ◌∙◌, subst, inl, inr, ⊎_elim, arith}
+use Rattle.std.specs.List.{HoldsAt, AllWithin, slice_get}
+use Rattle.std.proofs.lemmas.Option.{slice_get-get_or}
 use Rattle.standpoint.specs.Lists.{Tells, In, StandsAt}
 
 pub tells_as : {P Q : Type 0} (b : Bool) → (P → Q) → (Q → P) → Tells b P → Tells b Q
@@ -20,25 +21,26 @@ in_getD [] k d h = absurd (let z : ⊥ = omega arith in z)
 in_getD (x ∷ xs) zero d h = inl refl
 in_getD (x ∷ xs) (suc k) d h = inr (in_getD xs k d (omega arith))
 
--- a scan: what was read at i (its parts at two defaults) is o, or not, or the list is at its end
-module _ {X Y : Type 0} (xs : List (X × Y)) (i : ℕ) (o d e : X × Y) where
-  pub scan_found : i < length xs → ((get_or xs i d).0 ≡ o.0) × ((get_or xs i e).1 ≡ o.1) → In xs o
-  scan_found l same =
-      let read : get_or xs i e ≡ get_or xs i d = get_or_default xs i e d l in
-      let first = same.0 in
-      let second : (get_or xs i d).1 ≡ o.1 = sym (ap (λ (v : X × Y). v.1) read) ∙ same.1 in
-      let is : ◌≡◌ {A = X × Y} ((get_or xs i d).0, (get_or xs i d).1) (o.0, o.1) = cc in
-      subst (In xs) is (in_getD xs i d l)
+-- what a search for a pair by its parts tells
+module _ {X Y : Type 0} (xs : List (X × Y)) (x : X) (y : Y) where
+  pub told_by_any : (b : Bool) →
+      MatchBool b ((k : ℕ) × (k < length xs) × HoldsAt (λ p. (p.0 ≡ x) × (p.1 ≡ y)) xs k) (AllWithin (λ p. (p.0 ≡ x) × (p.1 ≡ y) → ⊥) xs 0 (length xs)) →
+      Tells b (In xs (x, y))
+  told_by_any true h =
+      let o : X × Y = (x, y) in
+      let v = get_or xs h.0 o in
+      let same = h.2 o in
+      let is : ◌≡◌ {A = X × Y} (v.0, v.1) (x, y) = cc in
+      subst (In xs) is (in_getD xs h.0 o h.1)
+  told_by_any false h = λ m.
+      let o : X × Y = (x, y) in
+      let at = in_stands xs o m in
+      let e = at.1.1 o in
+      h at.0 o (omega arith) at.1.0 (ap (λ (p : X × Y). p.0) e, ap (λ (p : X × Y). p.1) e)
 
-  pub scan_more : (((get_or xs i d).0 ≡ o.0) × ((get_or xs i e).1 ≡ o.1) → ⊥) → ((k : ℕ) → k < i → StandsAt xs k o → ⊥) →
-      (k : ℕ) → k < i + 1 → StandsAt xs k o → ⊥
-  scan_more differs below =
-      below_more (λ k. StandsAt xs k o → ⊥) i below
-      (λ at. differs (ap (λ (v : X × Y). v.0) (at.1 d), ap (λ (v : X × Y). v.1) (at.1 e)))
-
-pub scan_ended : {X : Type 0} (xs : List X) (i : ℕ) (o : X) → length xs ≤ i → ((k : ℕ) → k < i → StandsAt xs k o → ⊥) → In xs o → ⊥
-scan_ended xs i o ended below m = let at = in_stands xs o m in let l = at.1.0 in below at.0 (omega arith) at.1
-
-pub empty : {X : Type 0} (xs : List X) → length xs ≡ 0 → xs ≡ []
-empty [] e = refl
-empty (x ∷ xs) e = absurd (let z : ⊥ = omega arith in z)
+pub no_last : {X : Type 0} (xs : List X) → slice_get xs (length xs - 1) ≡ None → xs ≡ []
+no_last [] e = refl
+no_last (x ∷ xs) e =
+    let ys = x ∷ xs in
+    let read = slice_get-get_or ys (length ys - 1) x (omega arith) in
+    absurd (let z : ⊥ = let f : ◌≡◌ {A = Option _} (Some (get_or ys (length ys - 1) x)) None = sym read ∙ e in cc in z)

@@ -1,6 +1,8 @@
 -- The check of a whole list, step by step.
-use Rattle.std.proofs.Common.{◌≡◌, ℕ, ◌+◌, ◌-◌, ◌<◌, ◌≤◌, List, length, get_or, sym, refl, ◌∙◌, subst, arith, below_more}
+use Rattle.std.proofs.Common.{◌≡◌, ℕ, ◌+◌, ◌-◌, ◌<◌, ◌≤◌, List, length, get_or, Some, sym, refl, ◌∙◌, subst, arith, below_more}
+use Rattle.std.specs.List.{slice_get}
 use Rattle.std.proofs.lemmas.List.{get_or_default}
+use Rattle.std.proofs.lemmas.Option.{slice_get_within, get_or_from_slice_get}
 use Rattle.standpoint.specs.declared.step.Step.{Step}
 use Rattle.standpoint.specs.Sizes.{InRange}
 use Rattle.standpoint.specs.Algebra.{Algebra}
@@ -25,15 +27,16 @@ module _ {G : Type 0} (a : Algebra G) (base : Base G) (steps : List (Step G)) wh
         wrong = subst (λ (k : ℕ). RightAt a base steps k → ⊥) e (λ right. wrong (subst (Right a base steps n) (sym read) (right s)));
       }
 
-  pub passes : (n : ℕ) (s : Step G) → InRange base.sizes → (length steps ≡ 0 → ⊥) → length steps ≤ n → s ≡ get_or steps (length steps - 1) s →
+  pub passes : (n : ℕ) (s : Step G) → InRange base.sizes → length steps ≤ n → slice_get steps (length steps - 1) ≡ Some s →
       RightBelow a base steps n → Passes a base steps s.statement s.grade
-  passes n s range some ended read below =
+  passes n s range ended last below =
+      let within = slice_get_within steps (length steps - 1) s last in
       record {
         in_range = range;
         right = λ k l. below k (omega arith);
         last = record {
           step = s;
-          at_end = (omega arith, λ d. sym (read ∙ get_or_default steps (length steps - 1) s d (omega arith)));
+          at_end = (omega arith, λ d. get_or_from_slice_get steps (length steps - 1) s d last);
           gives = refl;
         };
       }

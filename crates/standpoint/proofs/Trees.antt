@@ -11,6 +11,7 @@ use Rattle.standpoint.specs.Derivations.Leaf.{accepted, tautology}
 use Rattle.standpoint.specs.Derivations.Derives.{leaf, one, two, three}
 use Rattle.standpoint.specs.Steps.{given, Earlier, Agrees, by_acceptance, by_tautology, by_one, by_two, by_three, Right, RightAt, RightBelow}
 use Rattle.standpoint.specs.Verdicts.{ListDerives, DerivedListed, ListMet, ContradictionExcludes, NothingContradicts}
+use Rattle.standpoint.proofs.Earlier.{right_moved}
 use Rattle.standpoint.proofs.Derived.{derived_fits, derived_met, contradiction_underivable}
 use Rattle.standpoint.proofs.OneThing.{one_thing}
 
@@ -55,17 +56,7 @@ module _ {G : Type 0} (a : Algebra G) (base : Base G) where
       let e = length-append xs (s ∷ []) in let l = at.0 in (omega arith, λ d. get_or_append_left xs (s ∷ []) d k l ∙ at.1 d)
 
   right_kept : (xs ys : List (Step G)) → Kept xs ys → (n : ℕ) (s : Step G) → Right a base xs n s → Right a base ys n s
-  right_kept xs ys keep n s right = record { fits = right.fits; agrees = by right.agrees }
-    where
-      up : (place : ℕ) (p : Step G) → Earlier xs n place p → Earlier ys n place p
-      up place p at = (at.0, at.1, keep (place - 1) p at.2)
-
-      by : Agrees a base xs n s → Agrees a base ys n s
-      by (by_acceptance r i j k m) = by_acceptance r i j k m
-      by (by_tautology r i j k t e) = by_tautology r i j k t e
-      by (by_one p i j k r e) = by_one p (up s.first p i) j k r e
-      by (by_two p q i j k r e) = by_two p q (up s.first p i) (up s.second q j) k r e
-      by (by_three p q t i j k r e) = by_three p q t (up s.first p i) (up s.second q j) (up s.third t k) r e
+  right_kept xs ys keep n = right_moved a base xs ys n n (λ place p at. (at.0, at.1, keep (place - 1) p at.2))
 
   right_pushed : (xs : List (Step G)) (s : Step G) → RightBelow a base xs (length xs) → Right a base xs (length xs) s →
       RightBelow a base (xs ++ s ∷ []) (length (xs ++ s ∷ []))

@@ -5,6 +5,7 @@ pub mod Algebra
 pub mod Grades
 pub mod Statements
 pub mod Rules
+pub mod RuleNumbers
 pub mod Tautologies
 pub mod Structures
 pub mod Derivations

@@ -54,10 +54,7 @@ impl Statement {
     pub fn fits(self, sizes: &Sizes) -> bool
         ensures { Tells result (Fits sizes.now self) }
     {
-        match Sorts::of(self.shape) {
-            Some(sorts) => sorts.admit(sizes, self),
-            None => false,
-        }
+        Sorts::of(self.shape).is_some_and(|sorts| sorts.admit(sizes, self))
     }
 
     // Whether a number other than the second of a nested inclusion is an individual.

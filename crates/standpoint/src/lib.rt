@@ -4,7 +4,7 @@
 pub use kinds::{Kind, Letter, LetterGrade, Odds, OddsGrade, Surcharge, Tally, TallyGrade};
 pub use premises::{Beside, Premises};
 pub use refusal::Refusal;
-pub use rules::{arity, conclude, may_meet};
+pub use rules::{Rule, UnknownRule, arity, conclude, may_meet};
 pub use sizes::Sizes;
 pub use statement::{Sort, Sorts, Statement};
 pub use step::Step;

@@ -1,86 +1,85 @@
 // The rules of the calculus.
 ghost use Rattle.std.specs.Prelude.{◌≡◌};
-ghost use Rattle.standpoint.specs.Conclusions.{from_one, from_two, from_three};
+ghost use Rattle.standpoint.specs.Conclusions.{conclusion};
+ghost use Rattle.standpoint.specs.RuleNumbers.{number_of_rule};
 ghost use Rattle.standpoint.specs.Rules.{Concluded, FitsAs, HasArity, listed};
 
 use crate::premises::Premises;
 use crate::statement::Statement;
+pub use named::{Rule, UnknownRule};
 pub use pairs::may_meet;
 
 mod bottom;
 mod existentials;
 mod inclusions;
+mod named;
 mod pairs;
 mod roles;
 mod sharpenings;
 
-// The conclusion of a rule from its premises, or none.
+impl Rule {
+    // The conclusion of the rule from its premises, or none.
+    pub fn conclude(self, individuals: u16, premises: Premises) -> Option<Statement>
+        ensures conclusion { Concluded individuals (number_of_rule self) (listed premises) result }
+        ensures fits { FitsAs individuals (listed premises) result }
+    {
+        self.apply(individuals, premises)
+    }
+
+    fn apply(self, individuals: u16, premises: Premises) -> Option<Statement>
+        ensures { result ≡ conclusion individuals (number_of_rule self) premises }
+    {
+        use Premises::{One, Three, Two};
+        match (self, premises) {
+            (Rule::RoleTransitive, Two(p, q)) => roles::role_transitive(p, q),
+            (Rule::SharperTransitive, Two(p, q)) => sharpenings::sharper_transitive(p, q),
+            (Rule::SharperThanBoth, Three(p, q, r)) => sharpenings::sharper_than_both(p, q, r),
+            (Rule::Lowered, Two(p, q)) => sharpenings::lowered(p, q),
+            (Rule::LoweredInside, Two(p, q)) => sharpenings::lowered_inside(p, q),
+            (Rule::InsideTransitive, Two(p, q)) => inclusions::inside_transitive(p, q),
+            (Rule::SubsumedNested, Two(p, q)) => inclusions::subsumed_nested(p, q),
+            (Rule::SubsumedPossible, Two(p, q)) => inclusions::subsumed_possible(p, q),
+            (Rule::PossibleWidened, Two(p, q)) => inclusions::possible_widened(p, q),
+            (Rule::NecessaryThenNested, Two(p, q)) => inclusions::necessary_then_nested(p, q),
+            (Rule::NecessaryThenPossible, Two(p, q)) => inclusions::necessary_then_possible(p, q),
+            (Rule::PossibleThenNested, Two(p, q)) => inclusions::possible_then_nested(p, q),
+            (Rule::PossibleThenPossible, Two(p, q)) => inclusions::possible_then_possible(p, q),
+            (Rule::ExistentialWidened, Three(p, q, r)) => existentials::existential_widened(
+                p, q, r,
+            ),
+            (Rule::ExistentialChained, Three(p, q, r)) => existentials::existential_chained(
+                p, q, r,
+            ),
+            (Rule::ExistentialMet, Two(p, q)) => existentials::existential_met(p, q),
+            (Rule::ConjunctionMet, Three(p, q, r)) => inclusions::conjunction_met(p, q, r),
+            (Rule::NecessaryHere, One(p)) => inclusions::necessary_here(p),
+            (Rule::OfAllThings, One(p)) => inclusions::of_all_things(p),
+            (Rule::ExistentialEmpty, One(p)) => bottom::existential_empty(p),
+            (Rule::NecessaryEmpty, One(p)) => bottom::necessary_empty(p),
+            (Rule::PossibleEmpty, One(p)) => bottom::possible_empty(p),
+            (Rule::IndividualEmpty, One(p)) => bottom::individual_empty(individuals, p),
+            _ => None,
+        }
+    }
+}
+
+// How many premises the rule of a number has, 0 if no rule has it.
+pub fn arity(rule: u8) -> u8
+    ensures { HasArity rule result }
+{
+    match Rule::try_from(rule) {
+        Ok(rule) => rule.arity(),
+        Err(_) => 0,
+    }
+}
+
+// The conclusion of the rule of a number, or none; no rule has a number below 1 or above 23.
 pub fn conclude(individuals: u16, rule: u8, premises: Premises) -> Option<Statement>
     ensures conclusion { Concluded individuals rule (listed premises) result }
     ensures fits { FitsAs individuals (listed premises) result }
 {
-    match premises {
-        Premises::One(p) => from_one(individuals, rule, p),
-        Premises::Two(p, q) => from_two(rule, p, q),
-        Premises::Three(p, q, r) => from_three(rule, p, q, r),
-    }
-}
-
-// How many premises a rule has, 0 if there is no such rule.
-pub fn arity(rule: u8) -> u8
-    ensures { HasArity rule result }
-{
-    match rule {
-        3 | 14 | 15 | 17 => 3,
-        1..=17 => 2,
-        18..=23 => 1,
-        _ => 0,
-    }
-}
-
-fn from_one(individuals: u16, rule: u8, p: Statement) -> Option<Statement>
-    ensures { result ≡ from_one individuals rule p }
-{
-    match rule {
-        18 => inclusions::necessary_here(p),
-        19 => inclusions::of_all_things(p),
-        20 => bottom::existential_empty(p),
-        21 => bottom::necessary_empty(p),
-        22 => bottom::possible_empty(p),
-        23 => bottom::individual_empty(individuals, p),
-        _ => None,
-    }
-}
-
-fn from_two(rule: u8, p: Statement, q: Statement) -> Option<Statement>
-    ensures { result ≡ from_two rule p q }
-{
-    match rule {
-        1 => roles::role_transitive(p, q),
-        2 => sharpenings::sharper_transitive(p, q),
-        4 => sharpenings::lowered(p, q),
-        5 => sharpenings::lowered_inside(p, q),
-        6 => inclusions::inside_transitive(p, q),
-        7 => inclusions::subsumed_nested(p, q),
-        8 => inclusions::subsumed_possible(p, q),
-        9 => inclusions::possible_widened(p, q),
-        10 => inclusions::necessary_then_nested(p, q),
-        11 => inclusions::necessary_then_possible(p, q),
-        12 => inclusions::possible_then_nested(p, q),
-        13 => inclusions::possible_then_possible(p, q),
-        16 => existentials::existential_met(p, q),
-        _ => None,
-    }
-}
-
-fn from_three(rule: u8, p: Statement, q: Statement, r: Statement) -> Option<Statement>
-    ensures { result ≡ from_three rule p q r }
-{
-    match rule {
-        3 => sharpenings::sharper_than_both(p, q, r),
-        14 => existentials::existential_widened(p, q, r),
-        15 => existentials::existential_chained(p, q, r),
-        17 => inclusions::conjunction_met(p, q, r),
-        _ => None,
+    match Rule::try_from(rule) {
+        Ok(rule) => rule.conclude(individuals, premises),
+        Err(_) => None,
     }
 }

@@ -22,8 +22,8 @@ impl Sizes {
     pub fn check(&self) -> Result<(), Refusal>
         ensures { Tested (InRange self.now) SizesOutOfRange result }
     {
-        let standpoints = self.standpoints >= 1 && self.standpoints <= 16;
-        let concepts = self.concepts >= 2 && self.concepts <= 64;
+        let standpoints = (1..=16).contains(&self.standpoints);
+        let concepts = (2..=64).contains(&self.concepts);
         let individuals = self.individuals <= 16 && self.individuals + 2 <= self.concepts;
         if standpoints && concepts && self.roles <= 16 && individuals {
             Ok(())

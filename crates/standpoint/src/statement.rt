@@ -1,9 +1,10 @@
 // Statements in normal form.
 ghost use Rattle.std.specs.Prelude.{◌≡◌};
 ghost use Rattle.standpoint.specs.Lists.{Tells};
-ghost use Rattle.standpoint.specs.Statements.{Before, same, statement, sharper, intersection_sharper, nested_inclusion, possible_inclusion, existential_right, existential_left, conjunction_left, role_inclusion, role_chain};
+ghost use Rattle.standpoint.specs.Statements.{Before, statement, sharper, intersection_sharper, nested_inclusion, possible_inclusion, existential_right, existential_left, conjunction_left, role_inclusion, role_chain};
 
-// A statement: its shape, 1 to 9, and five numbers, unused ones 0; ordered by the fields in turn.
+// A statement: its shape, 1 to 9, and five numbers, unused ones 0; ordered by the fields in turn. The shape is no enum, since
+// files and callers may hand any byte, and a statement of no shape is refused.
 #[derive(Clone, Copy, PartialEq, Eq, PartialOrd, Ord)]
 pub struct Statement {
     pub shape: u8,
@@ -86,13 +87,6 @@ impl Statement {
         ensures { result ≡ role_chain s r1 r2 r3 }
     {
         Statement::numbered(9, s, r1, r2, r3, 0)
-    }
-
-    // Whether this is the same statement as another.
-    pub(crate) fn same(self, other: Statement) -> bool
-        ensures { result ≡ same self other }
-    {
-        self == other
     }
 
     // Whether this statement stands before another.

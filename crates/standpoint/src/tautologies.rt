@@ -1,3 +1,4 @@
+#![tactic(auto, unfolding(crate::specs::Statements::same))]
 // What holds whatever is accepted.
 ghost use Rattle.std.specs.Prelude.{◌≡◌};
 ghost use Rattle.std.specs.List.{slice_get};
@@ -19,7 +20,7 @@ fn on_standpoints(sizes: &Sizes, x: Statement) -> bool
     ensures { result ≡ on_standpoints sizes.now x }
 {
     let s = x.first;
-    s < sizes.standpoints && (x.same(Statement::sharper(s, 0)) || x.same(Statement::sharper(s, s)))
+    s < sizes.standpoints && (x == Statement::sharper(s, 0) || x == Statement::sharper(s, s))
 }
 
 fn on_concepts(sizes: &Sizes, x: Statement) -> bool
@@ -27,15 +28,15 @@ fn on_concepts(sizes: &Sizes, x: Statement) -> bool
 {
     let c = x.fourth;
     c < sizes.concepts
-        && (x.same(Statement::nested_inclusion(0, 0, 0, c, c))
-            || x.same(Statement::nested_inclusion(0, 0, 0, c, 0)))
+        && (x == Statement::nested_inclusion(0, 0, 0, c, c)
+            || x == Statement::nested_inclusion(0, 0, 0, c, 0))
 }
 
 fn on_roles(sizes: &Sizes, x: Statement) -> bool
     ensures { result ≡ on_roles sizes.now x }
 {
     let r = x.second;
-    r < sizes.roles && x.same(Statement::role_inclusion(0, r, r))
+    r < sizes.roles && x == Statement::role_inclusion(0, r, r)
 }
 
 // How many tautologies there are.

@@ -2,14 +2,14 @@
 ghost use Rattle.std.specs.Prelude.{◌≤◌};
 
 // A tally, 0 to 4,294,967,295.
-#[derive(Clone, Copy)]
+#[derive(Clone, Copy, PartialEq, Eq, PartialOrd, Ord)]
 pub struct TallyGrade {
     pub value: u32,
     ghost within: { value ≤ 4294967295 },
 }
 
 // A letter; A is best.
-#[derive(Clone, Copy)]
+#[derive(Clone, Copy, PartialEq, Eq, PartialOrd, Ord)]
 pub enum LetterGrade {
     A,
     B,
@@ -19,7 +19,7 @@ pub enum LetterGrade {
 }
 
 // Odds, 0 to 255.
-#[derive(Clone, Copy)]
+#[derive(Clone, Copy, PartialEq, Eq, PartialOrd, Ord)]
 pub struct OddsGrade {
     pub value: u8,
     ghost within: { value ≤ 255 },

@@ -21,10 +21,10 @@ impl Kind for Letter {
     }
 
     fn no_worse(&self, a: LetterGrade, b: LetterGrade) -> bool {
-        a as u8 <= b as u8
+        a <= b
     }
 
     fn join(&self, a: LetterGrade, b: LetterGrade) -> LetterGrade {
-        if self.no_worse(a, b) { b } else { a }
+        a.max(b)
     }
 }

@@ -22,7 +22,7 @@ impl Kind for Odds {
     }
 
     fn no_worse(&self, a: OddsGrade, b: OddsGrade) -> bool {
-        a.value >= b.value
+        a >= b
     }
 
     fn join(&self, a: OddsGrade, b: OddsGrade) -> OddsGrade {

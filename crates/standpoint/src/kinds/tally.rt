@@ -22,18 +22,12 @@ impl Kind for Tally {
     }
 
     fn no_worse(&self, a: TallyGrade, b: TallyGrade) -> bool {
-        a.value <= b.value
+        a <= b
     }
 
     fn join(&self, a: TallyGrade, b: TallyGrade) -> TallyGrade {
         TallyGrade {
-            value: held_sum(a.value, b.value),
+            value: a.value.saturating_add(b.value),
         }
     }
-}
-
-fn held_sum(a: u32, b: u32) -> u32
-    ensures { result ≡ min (a + b) 4294967295 }
-{
-    a.saturating_add(b)
 }

@@ -1,3 +1,4 @@
+#![tactic(auto, unfolding(crate::specs::Statements::same))]
 // Rules on roles to something.
 ghost use Rattle.std.specs.Prelude.{◌≡◌};
 ghost use Rattle.standpoint.specs.Conclusions.{existential_widened, existential_chained, existential_met};
@@ -11,9 +12,9 @@ pub(super) fn existential_widened(p: Statement, q: Statement, r: Statement) -> O
     let (s, c, r1, d) = (p.first, p.second, p.third, p.fourth);
     let (v, e) = (q.first, q.fifth);
     let r2 = r.third;
-    if p.same(Statement::existential_right(s, c, r1, d))
-        && q.same(Statement::nested_inclusion(v, 0, s, d, e))
-        && r.same(Statement::role_inclusion(s, r1, r2))
+    if p == Statement::existential_right(s, c, r1, d)
+        && q == Statement::nested_inclusion(v, 0, s, d, e)
+        && r == Statement::role_inclusion(s, r1, r2)
     {
         Some(Statement::existential_right(s, c, r2, e))
     } else {
@@ -28,9 +29,9 @@ pub(super) fn existential_chained(p: Statement, q: Statement, r: Statement) -> O
     let (s, c, r1, d) = (p.first, p.second, p.third, p.fourth);
     let (r2, e) = (q.third, q.fourth);
     let r3 = r.fourth;
-    if p.same(Statement::existential_right(s, c, r1, d))
-        && q.same(Statement::existential_right(s, d, r2, e))
-        && r.same(Statement::role_chain(s, r1, r2, r3))
+    if p == Statement::existential_right(s, c, r1, d)
+        && q == Statement::existential_right(s, d, r2, e)
+        && r == Statement::role_chain(s, r1, r2, r3)
     {
         Some(Statement::existential_right(s, c, r3, e))
     } else {
@@ -44,8 +45,8 @@ pub(super) fn existential_met(p: Statement, q: Statement) -> Option<Statement>
 {
     let (s, c, r, d) = (p.first, p.second, p.third, p.fourth);
     let f = q.fourth;
-    if p.same(Statement::existential_right(s, c, r, d))
-        && q.same(Statement::existential_left(s, r, d, f))
+    if p == Statement::existential_right(s, c, r, d)
+        && q == Statement::existential_left(s, r, d, f)
     {
         Some(Statement::nested_inclusion(0, 0, s, c, f))
     } else {

@@ -1,3 +1,4 @@
+#![tactic(auto, unfolding(crate::specs::Statements::same))]
 // Rules on what concepts lie within.
 ghost use Rattle.std.specs.Prelude.{◌≡◌};
 ghost use Rattle.standpoint.specs.Conclusions.{inside_transitive, subsumed_nested, subsumed_possible, possible_widened, necessary_then_nested, necessary_then_possible, possible_then_nested, possible_then_possible, conjunction_met, necessary_here, of_all_things};
@@ -10,8 +11,8 @@ pub(super) fn inside_transitive(p: Statement, q: Statement) -> Option<Statement>
 {
     let (t, b, s, c, d) = (p.first, p.second, p.third, p.fourth, p.fifth);
     let e = q.fifth;
-    if p.same(Statement::nested_inclusion(t, b, s, c, d))
-        && q.same(Statement::nested_inclusion(t, b, s, d, e))
+    if p == Statement::nested_inclusion(t, b, s, c, d)
+        && q == Statement::nested_inclusion(t, b, s, d, e)
     {
         Some(Statement::nested_inclusion(t, b, s, c, e))
     } else {
@@ -25,8 +26,8 @@ pub(super) fn subsumed_nested(p: Statement, q: Statement) -> Option<Statement>
 {
     let (v, t, b, c) = (p.first, p.third, p.fourth, p.fifth);
     let (s, d, e) = (q.third, q.fourth, q.fifth);
-    if p.same(Statement::nested_inclusion(v, 0, t, b, c))
-        && q.same(Statement::nested_inclusion(t, c, s, d, e))
+    if p == Statement::nested_inclusion(v, 0, t, b, c)
+        && q == Statement::nested_inclusion(t, c, s, d, e)
     {
         Some(Statement::nested_inclusion(t, b, s, d, e))
     } else {
@@ -40,8 +41,8 @@ pub(super) fn subsumed_possible(p: Statement, q: Statement) -> Option<Statement>
 {
     let (v, t, c, d) = (p.first, p.third, p.fourth, p.fifth);
     let (s, e) = (q.third, q.fourth);
-    if p.same(Statement::nested_inclusion(v, 0, t, c, d))
-        && q.same(Statement::possible_inclusion(t, d, s, e))
+    if p == Statement::nested_inclusion(v, 0, t, c, d)
+        && q == Statement::possible_inclusion(t, d, s, e)
     {
         Some(Statement::possible_inclusion(t, c, s, e))
     } else {
@@ -55,8 +56,8 @@ pub(super) fn possible_widened(p: Statement, q: Statement) -> Option<Statement>
 {
     let (t, c, s, d) = (p.first, p.second, p.third, p.fourth);
     let e = q.fifth;
-    if p.same(Statement::possible_inclusion(t, c, s, d))
-        && q.same(Statement::nested_inclusion(t, c, s, d, e))
+    if p == Statement::possible_inclusion(t, c, s, d)
+        && q == Statement::nested_inclusion(t, c, s, d, e)
     {
         Some(Statement::possible_inclusion(t, c, s, e))
     } else {
@@ -70,8 +71,8 @@ pub(super) fn necessary_then_nested(p: Statement, q: Statement) -> Option<Statem
 {
     let (t, c, u, d) = (p.first, p.second, p.third, p.fifth);
     let (s, e, f) = (q.third, q.fourth, q.fifth);
-    if p.same(Statement::nested_inclusion(t, c, u, 0, d))
-        && q.same(Statement::nested_inclusion(u, d, s, e, f))
+    if p == Statement::nested_inclusion(t, c, u, 0, d)
+        && q == Statement::nested_inclusion(u, d, s, e, f)
     {
         Some(Statement::nested_inclusion(t, c, s, e, f))
     } else {
@@ -85,8 +86,8 @@ pub(super) fn necessary_then_possible(p: Statement, q: Statement) -> Option<Stat
 {
     let (t, c, u, d) = (p.first, p.second, p.third, p.fifth);
     let (s, e) = (q.third, q.fourth);
-    if p.same(Statement::nested_inclusion(t, c, u, 0, d))
-        && q.same(Statement::possible_inclusion(u, d, s, e))
+    if p == Statement::nested_inclusion(t, c, u, 0, d)
+        && q == Statement::possible_inclusion(u, d, s, e)
     {
         Some(Statement::possible_inclusion(t, c, s, e))
     } else {
@@ -100,8 +101,8 @@ pub(super) fn possible_then_nested(p: Statement, q: Statement) -> Option<Stateme
 {
     let (t, c, u, d) = (p.first, p.second, p.third, p.fourth);
     let (s, e, f) = (q.third, q.fourth, q.fifth);
-    if p.same(Statement::possible_inclusion(t, c, u, d))
-        && q.same(Statement::nested_inclusion(u, d, s, e, f))
+    if p == Statement::possible_inclusion(t, c, u, d)
+        && q == Statement::nested_inclusion(u, d, s, e, f)
     {
         Some(Statement::nested_inclusion(t, c, s, e, f))
     } else {
@@ -115,8 +116,8 @@ pub(super) fn possible_then_possible(p: Statement, q: Statement) -> Option<State
 {
     let (t, c, u, d) = (p.first, p.second, p.third, p.fourth);
     let (s, e) = (q.third, q.fourth);
-    if p.same(Statement::possible_inclusion(t, c, u, d))
-        && q.same(Statement::possible_inclusion(u, d, s, e))
+    if p == Statement::possible_inclusion(t, c, u, d)
+        && q == Statement::possible_inclusion(u, d, s, e)
     {
         Some(Statement::possible_inclusion(t, c, s, e))
     } else {
@@ -131,9 +132,9 @@ pub(super) fn conjunction_met(p: Statement, q: Statement, r: Statement) -> Optio
     let (t, b, s, c, c1) = (p.first, p.second, p.third, p.fourth, p.fifth);
     let c2 = q.fifth;
     let d = r.fourth;
-    if p.same(Statement::nested_inclusion(t, b, s, c, c1))
-        && q.same(Statement::nested_inclusion(t, b, s, c, c2))
-        && r.same(Statement::conjunction_left(s, c1, c2, d))
+    if p == Statement::nested_inclusion(t, b, s, c, c1)
+        && q == Statement::nested_inclusion(t, b, s, c, c2)
+        && r == Statement::conjunction_left(s, c1, c2, d)
     {
         Some(Statement::nested_inclusion(t, b, s, c, d))
     } else {
@@ -146,7 +147,7 @@ pub(super) fn necessary_here(p: Statement) -> Option<Statement>
     ensures { result ≡ necessary_here p }
 {
     let (s, c, d) = (p.first, p.second, p.fifth);
-    if p.same(Statement::nested_inclusion(s, c, s, 0, d)) {
+    if p == Statement::nested_inclusion(s, c, s, 0, d) {
         Some(Statement::nested_inclusion(0, 0, s, c, d))
     } else {
         None
@@ -158,7 +159,7 @@ pub(super) fn of_all_things(p: Statement) -> Option<Statement>
     ensures { result ≡ of_all_things p }
 {
     let (v, s, c, d) = (p.first, p.third, p.fourth, p.fifth);
-    if p.same(Statement::nested_inclusion(v, 0, s, c, d)) {
+    if p == Statement::nested_inclusion(v, 0, s, c, d) {
         Some(Statement::nested_inclusion(0, 0, s, c, d))
     } else {
         None

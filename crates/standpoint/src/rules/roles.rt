@@ -1,3 +1,4 @@
+#![tactic(auto, unfolding(crate::specs::Statements::same))]
 // The rule on roles.
 ghost use Rattle.std.specs.Prelude.{◌≡◌};
 ghost use Rattle.standpoint.specs.Conclusions.{role_transitive};
@@ -10,9 +11,7 @@ pub(super) fn role_transitive(p: Statement, q: Statement) -> Option<Statement>
 {
     let (s, r1, r2) = (p.first, p.second, p.third);
     let r3 = q.third;
-    if p.same(Statement::role_inclusion(s, r1, r2))
-        && q.same(Statement::role_inclusion(s, r2, r3))
-    {
+    if p == Statement::role_inclusion(s, r1, r2) && q == Statement::role_inclusion(s, r2, r3) {
         Some(Statement::role_inclusion(s, r1, r3))
     } else {
         None

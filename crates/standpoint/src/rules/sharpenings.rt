@@ -1,3 +1,4 @@
+#![tactic(auto, unfolding(crate::specs::Statements::same))]
 // Rules on sharper standpoints.
 ghost use Rattle.std.specs.Prelude.{◌≡◌};
 ghost use Rattle.standpoint.specs.Conclusions.{sharper_transitive, sharper_than_both, lowered, lowered_inside};
@@ -10,7 +11,7 @@ pub(super) fn sharper_transitive(p: Statement, q: Statement) -> Option<Statement
 {
     let (s, t) = (p.first, p.second);
     let u = q.second;
-    if p.same(Statement::sharper(s, t)) && q.same(Statement::sharper(t, u)) {
+    if p == Statement::sharper(s, t) && q == Statement::sharper(t, u) {
         Some(Statement::sharper(s, u))
     } else {
         None
@@ -24,9 +25,9 @@ pub(super) fn sharper_than_both(p: Statement, q: Statement, r: Statement) -> Opt
     let (s, s1) = (p.first, p.second);
     let s2 = q.second;
     let u = r.third;
-    if p.same(Statement::sharper(s, s1))
-        && q.same(Statement::sharper(s, s2))
-        && r.same(Statement::intersection_sharper(s1, s2, u))
+    if p == Statement::sharper(s, s1)
+        && q == Statement::sharper(s, s2)
+        && r == Statement::intersection_sharper(s1, s2, u)
     {
         Some(Statement::sharper(s, u))
     } else {
@@ -39,7 +40,7 @@ pub(super) fn lowered(x: Statement, q: Statement) -> Option<Statement>
     ensures { result ≡ lowered x q }
 {
     let s = q.first;
-    if x.shape >= 3 && x.shape <= 9 && q.same(Statement::sharper(s, x.first)) {
+    if x.shape >= 3 && x.shape <= 9 && q == Statement::sharper(s, x.first) {
         Some(Statement { first: s, ..x })
     } else {
         None
@@ -52,7 +53,7 @@ pub(super) fn lowered_inside(p: Statement, q: Statement) -> Option<Statement>
 {
     let (t, c, u, d, e) = (p.first, p.second, p.third, p.fourth, p.fifth);
     let s = q.first;
-    if p.same(Statement::nested_inclusion(t, c, u, d, e)) && q.same(Statement::sharper(s, u)) {
+    if p == Statement::nested_inclusion(t, c, u, d, e) && q == Statement::sharper(s, u) {
         Some(Statement::nested_inclusion(t, c, s, d, e))
     } else {
         None

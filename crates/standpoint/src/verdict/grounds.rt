@@ -1,12 +1,11 @@
 // The grounds of a step: the premises that it names, and what follows from them.
-ghost use Rattle.std.specs.Prelude.{◌<◌, length};
+ghost use Rattle.std.specs.Prelude.{length};
 ghost use Rattle.standpoint.specs.Checking.{Follows, Gathered, Read};
 ghost use Rattle.standpoint.specs.Lists.{Tells};
 
 use crate::kinds::Kind;
 use crate::premises::Premises;
 use crate::rules::conclude;
-use crate::sizes::Sizes;
 use crate::step::Step;
 use crate::verdict::equality::same;
 
@@ -20,34 +19,30 @@ struct Grounds<G: Clone + Copy + Drop> {
 // Whether the step's rule gives its statement and its grade from the premises that it names.
 pub(super) fn follows<K: Kind>(
     kind: &K,
-    sizes: &Sizes,
-    steps: &[Step<K::Grade>],
-    n: usize,
+    individuals: u16,
+    earlier: &[Step<K::Grade>],
     step: Step<K::Grade>,
 ) -> bool
-    requires { n < length steps.now }
-    ensures { Tells result (Follows (K.Kind.algebra kind.now) sizes.now.individuals steps.now n step) }
+    ensures { Tells result (Follows (K.Kind.algebra kind.now) individuals earlier.now (length earlier.now) step) }
 {
-    let Some(grounds) = gather(kind, steps, n, step) else {
+    let Some(grounds) = gather(kind, earlier, step) else {
         return false;
     };
-    let Some(conclusion) = conclude(sizes.individuals, step.rule, grounds.premises) else {
+    let Some(conclusion) = conclude(individuals, step.rule, grounds.premises) else {
         return false;
     };
     same(kind, conclusion, grounds.grade, step.statement, step.grade)
 }
 
-// The grounds that the step names among the first n.
+// The grounds that the step names among the earlier ones.
 fn gather<K: Kind>(
     kind: &K,
-    steps: &[Step<K::Grade>],
-    n: usize,
+    earlier: &[Step<K::Grade>],
     step: Step<K::Grade>,
 ) -> Option<Grounds<K::Grade>>
-    requires { n < length steps.now }
-    ensures { Gathered (K.Kind.algebra kind.now) steps.now n step result }
+    ensures { Gathered (K.Kind.algebra kind.now) earlier.now (length earlier.now) step result }
 {
-    let p = read(steps, n, step.first)?;
+    let p = read(earlier, step.first)?;
     if step.second == 0 && step.third == 0 {
         let premises = Premises::One(p.statement);
         return Some(Grounds {
@@ -55,13 +50,13 @@ fn gather<K: Kind>(
             grade: p.grade,
         });
     }
-    let q = read(steps, n, step.second)?;
+    let q = read(earlier, step.second)?;
     let grade = kind.join(p.grade, q.grade);
     if step.third == 0 {
         let premises = Premises::Two(p.statement, q.statement);
         return Some(Grounds { premises, grade });
     }
-    let r = read(steps, n, step.third)?;
+    let r = read(earlier, step.third)?;
     let premises = Premises::Three(p.statement, q.statement, r.statement);
     Some(Grounds {
         premises,
@@ -69,13 +64,9 @@ fn gather<K: Kind>(
     })
 }
 
-// The step at a place, counted from 1, among the first n.
-fn read<G: Clone + Copy + Drop>(steps: &[Step<G>], n: usize, place: usize) -> Option<Step<G>>
-    requires { n < length steps.now }
-    ensures { Read steps.now n place result }
+// The step at a place, counted from 1, among the earlier ones.
+fn read<G: Clone + Copy + Drop>(earlier: &[Step<G>], place: usize) -> Option<Step<G>>
+    ensures { Read earlier.now (length earlier.now) place result }
 {
-    if place == 0 || place > n {
-        return None;
-    }
-    Some(steps[place - 1])
+    earlier.get(place.checked_sub(1)?).copied()
 }

@@ -1,6 +1,6 @@
 use Rattle.std.proofs.Common.{arith}
 use Rattle.standpoint.proofs.Agreement.{accepted_told, tautology_told, rule_told}
-use Rattle.standpoint.proofs.verdict.agrees.Goals as goal
+use Rattle.standpoint.proofs.verdict.basis.Basis.agrees.Goals as goal
 
 pub returns-in-0 : goal.returns-in-0
 returns-in-0 g c = accepted_told _ _ _ _ _ _ c.in-0.is c.by_acceptance.ensures

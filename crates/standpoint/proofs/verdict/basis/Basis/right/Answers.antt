@@ -1,5 +1,5 @@
 use Rattle.standpoint.proofs.Lists.{tells_as}
-use Rattle.standpoint.proofs.verdict.right.Goals as goal
+use Rattle.standpoint.proofs.verdict.basis.Basis.right.Goals as goal
 
 pub returns-then-fits : goal.returns-then-fits
 returns-then-fits g c =

@@ -1,0 +1,97 @@
+// The rules by their names and their numbers.
+ghost use Rattle.std.specs.Prelude.{◌≡◌};
+ghost use Rattle.standpoint.specs.RuleNumbers.{Named, number_of_rule};
+ghost use Rattle.standpoint.specs.Rules.{HasArity};
+
+// The rules, in the order of their numbers.
+#[derive(Clone, Copy, PartialEq, Eq)]
+pub enum Rule {
+    RoleTransitive = 1,
+    SharperTransitive,
+    SharperThanBoth,
+    Lowered,
+    LoweredInside,
+    InsideTransitive,
+    SubsumedNested,
+    SubsumedPossible,
+    PossibleWidened,
+    NecessaryThenNested,
+    NecessaryThenPossible,
+    PossibleThenNested,
+    PossibleThenPossible,
+    ExistentialWidened,
+    ExistentialChained,
+    ExistentialMet,
+    ConjunctionMet,
+    NecessaryHere,
+    OfAllThings,
+    ExistentialEmpty,
+    NecessaryEmpty,
+    PossibleEmpty,
+    IndividualEmpty,
+}
+
+// A number that no rule has.
+#[derive(Clone, Copy, PartialEq, Eq)]
+pub struct UnknownRule(pub u8);
+
+impl TryFrom<u8> for Rule {
+    type Error = UnknownRule;
+
+    ghost try_from_gives = { Named };
+
+    fn try_from(number: u8) -> Result<Rule, UnknownRule> {
+        match number {
+            1 => Ok(Rule::RoleTransitive),
+            2 => Ok(Rule::SharperTransitive),
+            3 => Ok(Rule::SharperThanBoth),
+            4 => Ok(Rule::Lowered),
+            5 => Ok(Rule::LoweredInside),
+            6 => Ok(Rule::InsideTransitive),
+            7 => Ok(Rule::SubsumedNested),
+            8 => Ok(Rule::SubsumedPossible),
+            9 => Ok(Rule::PossibleWidened),
+            10 => Ok(Rule::NecessaryThenNested),
+            11 => Ok(Rule::NecessaryThenPossible),
+            12 => Ok(Rule::PossibleThenNested),
+            13 => Ok(Rule::PossibleThenPossible),
+            14 => Ok(Rule::ExistentialWidened),
+            15 => Ok(Rule::ExistentialChained),
+            16 => Ok(Rule::ExistentialMet),
+            17 => Ok(Rule::ConjunctionMet),
+            18 => Ok(Rule::NecessaryHere),
+            19 => Ok(Rule::OfAllThings),
+            20 => Ok(Rule::ExistentialEmpty),
+            21 => Ok(Rule::NecessaryEmpty),
+            22 => Ok(Rule::PossibleEmpty),
+            23 => Ok(Rule::IndividualEmpty),
+            _ => Err(UnknownRule(number)),
+        }
+    }
+}
+
+impl Rule {
+    // The number by which the rule is known.
+    pub fn number(self) -> u8
+        ensures { result ≡ number_of_rule self }
+    {
+        self as u8
+    }
+
+    // How many premises the rule has.
+    pub fn arity(self) -> u8
+        ensures { HasArity (number_of_rule self) result }
+    {
+        use Rule::*;
+        match self {
+            SharperThanBoth | ExistentialWidened | ExistentialChained | ConjunctionMet => 3,
+            NecessaryHere
+            | OfAllThings
+            | ExistentialEmpty
+            | NecessaryEmpty
+            | PossibleEmpty
+            | IndividualEmpty => 1,
+            _ => 2,
+        }
+    }
+}
