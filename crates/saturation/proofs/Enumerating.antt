@@ -7,8 +7,8 @@ use Rattle.standpoint.specs.Lists.{In, Tells}
 use Rattle.standpoint.specs.Algebra.{Algebra}
 use Rattle.standpoint.specs.Rules.{Rule, arity_of, GoesWith}
 use Rattle.standpoint.proofs.Arities.{few_premises, has_arity}
-use Rattle.saturation.specs.declared.search.Position.{Position}
-use Rattle.saturation.specs.declared.search.Position.TheVariants.{First, Second, Third}
+use Rattle.saturation.specs.declared.places.Position.{Position}
+use Rattle.saturation.specs.declared.places.Position.TheVariants.{First, Second, Third}
 use Rattle.saturation.specs.Tables.{State, statement_at, turn_at}
 use Rattle.saturation.specs.Places.{Step, StandAt, Uses, statements_of}
 use Rattle.saturation.specs.Searching.{Lists, Went, Pair, Triples, AllTriples, Around, around_one, around_two, around_three, arranged, NeverGoes, premises_in, SettledPlaces}

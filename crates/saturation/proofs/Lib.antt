@@ -1,5 +1,7 @@
 pub mod Offers
+pub mod Finding
 pub mod Lists
+pub mod Numbering
 pub mod Sameness
 pub mod Marks
 pub mod Choosing

@@ -6,8 +6,8 @@ use Rattle.standpoint.specs.Algebra.{Algebra}
 use Rattle.standpoint.specs.Rules.{Rule, Tautology}
 use Rattle.standpoint.specs.Derivations.{Base}
 use Rattle.saturation.specs.declared.row.Kept.{Kept}
-use Rattle.saturation.specs.declared.search.Places.{Places}
-use Rattle.saturation.specs.declared.search.Places.TheVariants.{One, Two, Three}
+use Rattle.saturation.specs.declared.places.Places.{Places}
+use Rattle.saturation.specs.declared.places.Places.TheVariants.{One, Two, Three}
 use Rattle.saturation.specs.Rows.{kept}
 
 -- grades joined from the left

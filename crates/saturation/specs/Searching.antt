@@ -5,8 +5,8 @@ use Rattle.standpoint.specs.Lists.{In}
 use Rattle.standpoint.specs.Algebra.{Algebra}
 use Rattle.standpoint.specs.Rules.{Rule}
 use Rattle.standpoint.specs.Derivations.{Base}
-use Rattle.saturation.specs.declared.search.Position.{Position}
-use Rattle.saturation.specs.declared.search.Position.TheVariants.{First, Second, Third}
+use Rattle.saturation.specs.declared.places.Position.{Position}
+use Rattle.saturation.specs.declared.places.Position.TheVariants.{First, Second, Third}
 use Rattle.saturation.specs.Tables.{State, row_at, statement_at, turn_at, OpenAt, Absent, has_room}
 use Rattle.saturation.specs.Places.{Step}
 use Rattle.saturation.specs.Offering.{Apart, BestOf, Grown, RowsRight}

@@ -21,25 +21,12 @@ fn comes_first<K: Kind>(kind: &K, g: K::Grade, x: Statement, h: K::Grade, y: Sta
     x.before(y)
 }
 
-// Whether row i is settled before row j.
-fn row_first<K: Kind>(kind: &K, rows: &[Row], grades: &[K::Grade], i: usize, j: usize) -> bool
-    requires { (i < length rows.now) × (j < length rows.now) × (i < length grades.now) × (j < length grades.now) }
-    ensures { Tells result (RowsAhead (K.Kind.algebra kind.now) rows.now grades.now i j) }
-{
-    comes_first(
-        kind,
-        grades[i],
-        rows[i].statement,
-        grades[j],
-        rows[j].statement,
-    )
-}
-
 impl<'a, G: Copy> Table<'a, G> {
     // The unsettled row that is to be settled next, or none.
     pub(crate) fn choose<K: Kind<Grade = G>>(&self, kind: &K) -> Option<usize>
         ensures { Chosen (K.Kind.algebra kind.now) (view self.now) self.now.len result }
     {
+        // The row's number is what is compared and answered, so the loop is over numbers.
         let mut best = None;
         for i in 0..self.len {
             best = self.first_of(kind, best, i);

@@ -1,14 +1,17 @@
 //! Saturation: a table over lent memory that settles statements, best grade first.
 #![tactic(auto)]
 
+pub use places::{Places, Position};
 pub use row::{Kept, Row};
-pub use search::{Places, Position};
+pub use rows::NoRow;
 pub use table::{Phase, Table};
 pub use turn::Turn;
 
+mod attempt;
 mod choose;
 mod memory;
 mod offer;
+mod places;
 mod row;
 mod rows;
 mod run;

@@ -1,23 +1,24 @@
 // One offer of a statement at a grade.
 ghost use Rattle.saturation.specs.Tables.{view, Same};
 ghost use Rattle.saturation.specs.Offering.{Taken, Keeps, Outdone};
-ghost use Rattle.std.specs.Prelude.{◌<◌};
+ghost use Rattle.std.specs.Prelude.{◌<◌, is_ok};
 
 use crate::row::{Kept, Row};
+use crate::rows::NoRow;
 use crate::table::Table;
 use standpoint::{Kind, Statement};
 
 impl<'a, G: Copy> Table<'a, G> {
-    // A new row, a better grade for an unsettled one, or nothing; false where no row is free.
+    // A new row, a better grade for an unsettled one, or nothing; refused where no row is free.
     pub fn offer<K: Kind<Grade = G>>(
         &mut self,
         kind: &K,
         statement: Statement,
         grade: G,
         kept: Kept,
-    ) -> bool
+    ) -> Result<(), NoRow>
         ensures same { Same self.old self.new }
-        ensures state { Taken (K.Kind.algebra kind.now) (view self.old) (view self.new) statement grade result }
+        ensures state { Taken (K.Kind.algebra kind.now) (view self.old) (view self.new) statement grade (is_ok result) }
         ensures keeps { Keeps (K.Kind.algebra kind.now) (view self.old) (view self.new) statement grade kept }
     {
         let Some(i) = self.find(statement) else {
@@ -35,7 +36,7 @@ impl<'a, G: Copy> Table<'a, G> {
         if self.outdone(kind, i, grade) {
             self.improve(i, grade, kept);
         }
-        true
+        Ok(())
     }
 
     // Whether row i is unsettled, and this grade is better than its own.

@@ -1,11 +1,15 @@
 // Single rows: looking for one, taking one, changing one.
-ghost use Rattle.std.specs.Prelude.{◌≡◌, ℕ, ◌+◌, ◌<◌, ◌≤◌, false, length, if◌then◌else◌, MatchOption, slice_index_or};
+ghost use Rattle.std.specs.Prelude.{◌≡◌, ℕ, ◌+◌, ◌<◌, ◌≤◌, false, length, if◌then◌else◌, is_ok, MatchOption, slice_index_or};
 ghost use Rattle.saturation.specs.Tables.{view, Same, RowOf, Found, has_room, pushed, improved, statement_at, turn_at, row_at};
 ghost use Rattle.saturation.specs.Searching.{Premise};
 
 use crate::row::{Kept, Row};
 use crate::table::Table;
 use standpoint::Statement;
+
+// Every row is taken.
+#[derive(Clone, Copy, PartialEq, Eq)]
+pub struct NoRow;
 
 // No table uses more rows.
 pub(crate) const MOST_ROWS: usize = 16_777_215;
@@ -19,20 +23,20 @@ impl<'a, G: Copy> Table<'a, G> {
     }
 
     // Takes one more row, if there is one.
-    pub(crate) fn push(&mut self, row: Row, grade: G) -> bool
+    pub(crate) fn push(&mut self, row: Row, grade: G) -> Result<(), NoRow>
         requires { row.mark ≡ false }
         ensures same { Same self.old self.new }
-        ensures room { result ≡ has_room (view self.old) }
-        ensures state { view self.new ≡ (if result then pushed (view self.old) row grade else view self.old) }
+        ensures room { is_ok result ≡ has_room (view self.old) }
+        ensures state { view self.new ≡ (if is_ok result then pushed (view self.old) row grade else view self.old) }
     {
         let at = self.len;
         if at >= self.rows.len() || at >= self.grades.len() || at >= MOST_ROWS {
-            return false;
+            return Err(NoRow);
         }
         self.rows[at] = row;
         self.grades[at] = grade;
         self.len = at + 1;
-        true
+        Ok(())
     }
 
     // Another grade for row i, with the step that gave it.
@@ -87,11 +91,7 @@ fn row_of(rows: &[Row], len: usize, statement: Statement) -> Option<usize>
     requires { len ≤ length rows.now }
     ensures { RowOf rows.now len statement result }
 {
-    for i in 0..len {
-        let held = rows[i].statement;
-        if held == statement {
-            return Some(i);
-        }
-    }
-    None
+    rows[..len]
+        .iter()
+        .position(|row| row.statement == statement)
 }

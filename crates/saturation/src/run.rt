@@ -17,6 +17,7 @@ impl<'a, G: Copy> Table<'a, G> {
         ensures within { result.0 ≤ n }
         ensures run { Settles (K.Kind.algebra kind.now) self.old.phase.sizes.individuals (view self.old) (view self.new) n result.0 result.1 }
     {
+        // The count of turns is part of the answer.
         for k in 0..n {
             match self.go_on(kind) {
                 Turn::Nothing => return (k, Stand::Ended),

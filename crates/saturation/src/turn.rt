@@ -4,6 +4,7 @@ ghost use Rattle.saturation.specs.Tables.{view, Same, with_turn, with_place, set
 ghost use Rattle.saturation.specs.Turns.{Turned};
 
 use crate::row::Row;
+use crate::rows::NoRow;
 use crate::table::Table;
 use standpoint::Kind;
 
@@ -33,10 +34,9 @@ impl<'a, G: Copy> Table<'a, G> {
             return Turn::Nothing;
         };
         self.settle_row(i);
-        if self.search(kind, individuals, newest) {
-            Turn::Settled
-        } else {
-            Turn::Overflowed
+        match self.search(kind, individuals, newest) {
+            Ok(()) => Turn::Settled,
+            Err(NoRow) => Turn::Overflowed,
         }
     }
 

@@ -71,6 +71,33 @@ impl TryFrom<u8> for Rule {
 }
 
 impl Rule {
+    // Every rule, in the order of their numbers.
+    pub const ALL: [Rule; 23] = [
+        Rule::RoleTransitive,
+        Rule::SharperTransitive,
+        Rule::SharperThanBoth,
+        Rule::Lowered,
+        Rule::LoweredInside,
+        Rule::InsideTransitive,
+        Rule::SubsumedNested,
+        Rule::SubsumedPossible,
+        Rule::PossibleWidened,
+        Rule::NecessaryThenNested,
+        Rule::NecessaryThenPossible,
+        Rule::PossibleThenNested,
+        Rule::PossibleThenPossible,
+        Rule::ExistentialWidened,
+        Rule::ExistentialChained,
+        Rule::ExistentialMet,
+        Rule::ConjunctionMet,
+        Rule::NecessaryHere,
+        Rule::OfAllThings,
+        Rule::ExistentialEmpty,
+        Rule::NecessaryEmpty,
+        Rule::PossibleEmpty,
+        Rule::IndividualEmpty,
+    ];
+
     // The number by which the rule is known.
     pub fn number(self) -> u8
         ensures { result ≡ number_of_rule self }

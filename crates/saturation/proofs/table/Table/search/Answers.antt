@@ -1,6 +1,8 @@
-use Rattle.std.proofs.Common.{◌≤◌, Bool, true, false, sym, refl, subst, arith}
+use Rattle.std.proofs.Common.{ℕ, ◌+◌, ◌<◌, ◌≤◌, Bool, true, false, is_ok, sym, refl, subst, arith}
+use Rattle.standpoint.specs.RuleNumbers.{number_of_rule}
 use Rattle.saturation.specs.Tables.{view}
 use Rattle.saturation.specs.Searching.{Went, Around}
+use Rattle.saturation.proofs.Numbering.{nth_rule, nth_number}
 use Rattle.saturation.proofs.Sameness.{same_then}
 use Rattle.saturation.proofs.Searches.{Below, went_start, went_more, went_stopped}
 use Rattle.saturation.proofs.Enumerating.{Ruled, Using, went_rule, went_all, went_first_rule}
@@ -15,10 +17,10 @@ pub loop-i-init : goal.loop-i-init
 loop-i-init g c =
     let al = g.K.Kind.algebra c.args.kind.now in
     let v = c.args.individuals in
-    (c.search.invariant.0, (refl, refl, refl), went_start al v (view c.search.self) (Around al v c.search.rule c.args.newest) (Using al v c.args.newest))
+    (c.search.invariant.0, (refl, refl, refl), went_start al v (view c.search.self) (Around al v _ c.args.newest) (Using al v c.args.newest))
 
-pub around-requires : goal.around-requires
-around-requires g c =
+pub around-outcome-requires : goal.around-outcome-requires
+around-outcome-requires g c =
     let a = c.requires in
     let outer = c.search.invariant.2.grown.settled in
     let inner = c.loop-i.invariant.2.grown.settled in
@@ -33,10 +35,11 @@ loop-i-preserved g c =
     let t = c.loop-i.self in
     let n = c.args.newest in
     let inv = c.loop-i.invariant in
-    let u = view c.around.new.self in
-    let F = Around al v c.search.rule n in
-    let made = subst (λ (b : Bool). Went al v (view t) u (F c.loop-i.i) (Using al v n) b) c.if-not-around.false c.around.ensures.state in
-    (inv.0, same_then inv.1 c.around.ensures.same, went_more al v (view s) (view t) u F (Using al v n) c.loop-i.i true (s.settled_fit, s.turns) inv.2 made)
+    let u = view c.around-outcome.new.self in
+    let F = Around al v (number_of_rule (nth_rule c.search.rule-index)) n in
+    let on = c.if-is_err.ensures.negation in
+    let made = subst (λ (b : Bool). Went al v (view t) u (F c.loop-i.i) (Using al v n) b) on c.around-outcome.ensures.state in
+    (on, same_then inv.1 c.around-outcome.ensures.same, went_more al v (view s) (view t) u F (Using al v n) c.loop-i.i true (s.settled_fit, s.turns) inv.2 made)
 
 pub search-preserved : goal.search-preserved
 search-preserved g c =
@@ -45,11 +48,14 @@ search-preserved g c =
     let r = c.args.self.now in
     let s = c.search.self in
     let t = c.loop-i.self in
+    let n = c.args.newest in
+    let k = c.search.rule-index in
     let out = c.search.invariant in
     let inv = c.loop-i.invariant in
-    let low : 1 ≤ c.search.rule = omega arith in
+    let below : k < 23 = c.search-test.true in
     let end : s.settled ≤ c.loop-i.i = omega arith in
-    (inv.0, same_then out.1 inv.1, went_rule al v (view r) (view s) (view t) c.args.newest c.search.rule c.loop-i.i (r.settled_fit, r.turns) low end out.2 inv.2)
+    let here = subst (λ (rule : ℕ). Went al v (view s) (view t) (Below (Around al v rule n) c.loop-i.i) (Using al v n) true) (nth_number k below) inv.2 in
+    (inv.0, same_then out.1 inv.1, went_rule al v (view r) (view s) (view t) n (k + 1) c.loop-i.i (r.settled_fit, r.turns) (omega arith) end out.2 here)
 
 pub returns-after-search : goal.returns-after-search
 returns-after-search g c =
@@ -59,23 +65,28 @@ returns-after-search g c =
     let s = c.search.self in
     let n = c.args.newest in
     let out = c.search.invariant in
-    let all = went_all al v (view r) (view s) n c.search.rule c.search-test.false out.2 in
-    record { same = out.1; state = subst (λ (b : Bool). Went al v (view r) (view s) (Using al v n) (Using al v n) b) (sym out.0) all }
+    let end : 23 ≤ c.search.rule-index = c.search-test.false in
+    let all = went_all al v (view r) (view s) n (c.search.rule-index + 1) (omega arith) out.2 in
+    let on = out.0 in
+    record { same = out.1; state = subst (Went al v (view r) (view s) (Using al v n) (Using al v n)) (sym on) all }
 
-pub returns-then-not-around : goal.returns-then-not-around
-returns-then-not-around g c =
+pub returns-then-is_err : goal.returns-then-is_err
+returns-then-is_err g c =
     let al = g.K.Kind.algebra c.args.kind.now in
     let v = c.args.individuals in
     let r = c.args.self.now in
     let s = c.search.self in
     let t = c.loop-i.self in
-    let u = c.around.new.self in
+    let u = c.around-outcome.new.self in
     let n = c.args.newest in
+    let k = c.search.rule-index in
     let out = c.search.invariant in
     let inv = c.loop-i.invariant in
-    let F = Around al v c.search.rule n in
-    let here = went_stopped al v (view s) (view t) (view u) (Below F c.loop-i.i) (F c.loop-i.i) (Using al v n) (Using al v n) true c.around.result (s.settled_fit, s.turns) refl c.if-not-around.true inv.2 c.around.ensures.state in
+    let F = Around al v (number_of_rule (nth_rule k)) n in
+    let off = c.if-is_err.ensures.negation in
+    let here = went_stopped al v (view s) (view t) (view u) (Below F c.loop-i.i) (F c.loop-i.i) (Using al v n) (Using al v n) true (is_ok c.around-outcome.result) (s.settled_fit, s.turns) refl off inv.2 c.around-outcome.ensures.state in
+    let all = went_stopped al v (view r) (view s) (view u) (Below (Ruled al v n) (k + 1)) (Using al v n) (Using al v n) (Using al v n) true false (r.settled_fit, r.turns) refl refl out.2 here in
     record {
-      same = same_then out.1 (same_then inv.1 c.around.ensures.same);
-      state = went_stopped al v (view r) (view s) (view u) (Below (Ruled al v n) c.search.rule) (Using al v n) (Using al v n) (Using al v n) true false (r.settled_fit, r.turns) refl refl out.2 here;
+      same = same_then out.1 (same_then inv.1 c.around-outcome.ensures.same);
+      state = subst (Went al v (view r) (view u) (Using al v n) (Using al v n)) (sym off) all;
     }

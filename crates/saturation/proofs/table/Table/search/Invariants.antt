@@ -1,4 +1,5 @@
-use Rattle.std.proofs.Common.{◌≡◌, true}
+use Rattle.std.proofs.Common.{◌≡◌, ◌+◌, is_ok, true}
+use Rattle.standpoint.specs.RuleNumbers.{number_of_rule}
 use Rattle.saturation.specs.Tables.{view, Same}
 use Rattle.saturation.specs.Searching.{Went, Around}
 use Rattle.saturation.proofs.Searches.{Below}
@@ -10,11 +11,11 @@ abbrev pub invariant-loop-i : goal.invariant-loop-i
 invariant-loop-i g l =
     let al = g.K.Kind.algebra l.kind in
     let v = l.individuals in
-    (l.open ≡ true) × Same l.initial.self l.self × Went al v (view l.initial.self) (view l.self) (Below (Around al v l.rule l.newest) l.i) (Using al v l.newest) true
+    (is_ok l.outcome ≡ true) × Same l.initial.self l.self × Went al v (view l.initial.self) (view l.self) (Below (Around al v (number_of_rule l.by.rule) l.newest) l.i) (Using al v l.newest) true
 
 -- what the rules so far give was offered, since the call
 abbrev pub invariant-search : goal.invariant-search
 invariant-search g l =
     let al = g.K.Kind.algebra l.kind in
     let v = l.individuals in
-    (l.open ≡ true) × Same l.initial.self l.self × Went al v (view l.initial.self) (view l.self) (Below (Ruled al v l.newest) l.rule) (Using al v l.newest) true
+    (is_ok l.outcome ≡ true) × Same l.initial.self l.self × Went al v (view l.initial.self) (view l.self) (Below (Ruled al v l.newest) (l.rule-index + 1)) (Using al v l.newest) true

@@ -1,0 +1,114 @@
+// One rule, tried on settled premises.
+ghost use Rattle.std.specs.Prelude.{◌≡◌, false, is_ok};
+ghost use Rattle.standpoint.specs.RuleNumbers.{number_of_rule};
+ghost use Rattle.standpoint.specs.Rules.{listed};
+ghost use Rattle.saturation.specs.Tables.{view, Same};
+ghost use Rattle.saturation.specs.Places.{listed_places, statements_of, grades_of, joined, Step};
+ghost use Rattle.saturation.specs.Searching.{premises_in, SettledPlaces, GivesNothing, linked, Went};
+
+use crate::places::Places;
+use crate::rows::NoRow;
+use crate::table::Table;
+use standpoint::{Kind, Premises, Rule, Statement};
+
+// A rule over so many individuals, and the kind by which grades are joined.
+#[derive(Drop)]
+pub(crate) struct By<'k, K: Kind> {
+    pub kind: &'k K,
+    pub individuals: u16,
+    pub rule: Rule,
+}
+
+// Whether two premises pass a quick test of a rule with two: shapes that it asks for, not always all, and the name that links them.
+fn linked(rule: Rule, p: Statement, q: Statement) -> bool
+    ensures { result ≡ linked (number_of_rule rule) p q }
+{
+    match rule {
+        Rule::RoleTransitive => p.shape == 8 && q.shape == 8 && p.third == q.second,
+        Rule::SharperTransitive => p.shape == 1 && q.shape == 1 && p.second == q.first,
+        Rule::Lowered => q.shape == 1 && p.first == q.second,
+        Rule::LoweredInside => q.shape == 1 && p.third == q.second,
+        Rule::InsideTransitive => p.shape == 3 && q.shape == 3 && p.fifth == q.fourth,
+        Rule::SubsumedNested | Rule::NecessaryThenNested => p.shape == 3
+            && q.shape == 3
+            && p.fifth == q.second,
+        Rule::SubsumedPossible | Rule::NecessaryThenPossible => p.shape == 3
+            && q.shape == 4
+            && p.fifth == q.second,
+        Rule::PossibleWidened => p.shape == 4 && q.shape == 3 && p.second == q.second,
+        Rule::PossibleThenNested => p.shape == 4 && q.shape == 3 && p.fourth == q.second,
+        Rule::PossibleThenPossible => p.shape == 4 && q.shape == 4 && p.fourth == q.second,
+        Rule::ExistentialMet => p.shape == 5 && q.shape == 6 && p.fourth == q.third,
+        _ => false,
+    }
+}
+
+// That places are settled is said by each call, since they are places in this very table.
+impl<'a, G: Copy> Table<'a, G> {
+    // The statements settled at these places.
+    fn premises(&self, at: Places) -> Premises
+        requires { SettledPlaces self.now.settled (listed_places at) }
+        ensures { (d : G) → listed result ≡ statements_of (premises_in (view self.now) d (listed_places at)) }
+    {
+        match at {
+            Places::One(i) => Premises::One(self.settled_statement(i)),
+            Places::Two(i, j) => {
+                Premises::Two(self.settled_statement(i), self.settled_statement(j))
+            }
+            Places::Three(i, j, k) => Premises::Three(
+                self.settled_statement(i),
+                self.settled_statement(j),
+                self.settled_statement(k),
+            ),
+        }
+    }
+
+    // The grades settled at these places, joined from the left.
+    fn joined<K: Kind<Grade = G>>(&self, kind: &K, at: Places) -> G
+        requires { SettledPlaces self.now.settled (listed_places at) }
+        ensures { (d : G) → result ≡ joined (K.Kind.algebra kind.now) (grades_of (premises_in (view self.now) d (listed_places at))) }
+    {
+        match at {
+            Places::One(i) => self.settled_grade(i),
+            Places::Two(i, j) => kind.join(self.settled_grade(i), self.settled_grade(j)),
+            Places::Three(i, j, k) => {
+                let two = kind.join(self.settled_grade(i), self.settled_grade(j));
+                kind.join(two, self.settled_grade(k))
+            }
+        }
+    }
+
+    // Whether the rule may give something from the premises settled at these places: a test that costs less than the rule.
+    fn may_give(&self, rule: Rule, at: Places) -> bool
+        requires { SettledPlaces self.now.settled (listed_places at) }
+        ensures { result ≡ false → (d : G) → GivesNothing (number_of_rule rule) (statements_of (premises_in (view self.now) d (listed_places at))) }
+    {
+        match at {
+            Places::Two(i, j) => {
+                let p = self.settled_statement(i);
+                let q = self.settled_statement(j);
+                linked(rule, p, q)
+            }
+            _ => true,
+        }
+    }
+
+    // Offers what the rule gives from the premises settled at these places.
+    pub(crate) fn attempt<K: Kind<Grade = G>>(
+        &mut self,
+        by: &By<'_, K>,
+        at: Places,
+    ) -> Result<(), NoRow>
+        requires { SettledPlaces self.old.settled (listed_places at) }
+        ensures same { Same self.old self.new }
+        ensures state { Went (K.Kind.algebra by.now.kind.now) by.now.individuals (view self.old) (view self.new) (λ l. Step (K.Kind.algebra by.now.kind.now) by.now.individuals l (number_of_rule by.now.rule) (listed_places at)) (λ l. Step (K.Kind.algebra by.now.kind.now) by.now.individuals l (number_of_rule by.now.rule) (listed_places at)) (is_ok result) }
+    {
+        if !self.may_give(by.rule, at) {
+            return Ok(());
+        }
+        match by.rule.conclude(by.individuals, self.premises(at)) {
+            Some(x) => self.offer(by.kind, x, self.joined(by.kind, at), at.kept(by.rule)),
+            None => Ok(()),
+        }
+    }
+}
