@@ -199,11 +199,6 @@ module _ {G : Type 0} (al : Algebra G) (v : ℕ) where
   around_elsewhere s rule n i one other = went_none al v s _ (Using n) (λ l is o b.
       ⊎_elim (λ w. other w.1) (⊎_elim (λ w. let e = w.0 in omega arith) (λ w. let e = w.0 in omega arith)) (around_arity rule n i l o b))
 
-  -- no such rule
-  pub around_nothing : (s : State G) (rule n i : ℕ) → (arity_of rule ≡ 1 → ⊥) → (arity_of rule ≡ 2 → ⊥) → (arity_of rule ≡ 3 → ⊥) → Went al v s s (Around al v rule n i) (Using n) true
-  around_nothing s rule n i not-one not-two not_three = went_none al v s _ (Using n) (λ l is o b.
-      ⊎_elim (λ w. not-one w.0) (⊎_elim (λ w. not-two w.0) (λ w. not_three w.0)) (around_arity rule n i l o b))
-
   -- what a rule gives around n and all that is settled
   abbrev pub Ruled : ℕ → ℕ → Family G
   Ruled n rule l o = (1 ≤ rule) × Below (Around al v rule n) (length l) l o
