@@ -12,9 +12,6 @@ returns-in_err-check g c =
     let h = c.in_err-check.ensures in
     rw (p.1, p.2, h.0) (out_of_range h.1)
 
-pub loop-n-init : goal.loop-n-init
-loop-n-init g c = λ n l. absurd (omega (arith, l))
-
 pub returns-then-not-right : goal.returns-then-not-right
 returns-then-not-right g c =
     wrong_step c.in_ok-check.ensures

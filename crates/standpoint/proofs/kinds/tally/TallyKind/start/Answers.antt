@@ -1,7 +1,0 @@
-use Rattle.std.proofs.Common.{refl}
-use Rattle.standpoint.specs.Grades.{tally_grade}
-use Rattle.standpoint.specs.GradeLaws.{same_made}
-use Rattle.standpoint.proofs.kinds.tally.TallyKind.start.Goals as goal
-
-pub returns : goal.returns
-returns c = same_made tally_grade _ _ refl
