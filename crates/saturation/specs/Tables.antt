@@ -1,10 +1,8 @@
 -- A table as a plain state, and what one write makes of it.
-use Rattle.std.specs.Prelude.{◌≡◌, ℕ, ◌+◌, ◌<◌, min, Bool, true, List, length, get_or, Some, None, Option, ◌≢◌, nat_lt, slice_index_or, slice_set}
+use Rattle.std.specs.Prelude.{◌≡◌, ℕ, ◌+◌, ◌<◌, min, Bool, List, length, get_or, Some, None, Option, ◌≢◌, nat_lt, slice_index_or, slice_set}
 use Rattle.standpoint.specs.declared.statement.Statement.{Statement}
 use Rattle.saturation.specs.declared.row.Kept.{Kept}
 use Rattle.saturation.specs.declared.row.Row.{Row}
-use Rattle.standpoint.specs.declared.sizes.Sizes.{Sizes}
-use Rattle.saturation.specs.declared.table.Phase.{Phase}
 use Rattle.saturation.specs.declared.table.Table.{Table}
 use Rattle.saturation.specs.Rows.{row, no_row}
 
@@ -21,13 +19,6 @@ view t = record { rows = t.rows.now; grades = t.grades.now; len = t.len; settled
 -- over the same memory
 abbrev pub OverSame : {G : Type 0} → Table G → Table G → Type 0
 OverSame s t = (t.rows.ghost_name ≡ s.rows.ghost_name) × (t.grades.ghost_name ≡ s.grades.ghost_name)
-
--- the sizes, whether a run is begun, its base sealed, and whether it stands full
-abbrev pub phase : Sizes → Bool → Bool → Bool → Phase
-phase n begun sealed full = record { sizes = n; begun = begun; sealed = sealed; full = full }
-
-abbrev pub sealed_phase : Phase → Bool → Phase
-sealed_phase p full = phase p.sizes p.begun true full
 
 -- over the same memory, and in the same phase
 abbrev pub Same : {G : Type 0} → Table G → Table G → Type 0

@@ -1,5 +1,6 @@
 // One turn of a run.
 ghost use Rattle.std.specs.Prelude.{◌≡◌, ◌+◌, ◌<◌};
+ghost use Rattle.saturation.specs.Phases.{sizes_of};
 ghost use Rattle.saturation.specs.Tables.{view, Same, with_turn, with_place, settled_row};
 ghost use Rattle.saturation.specs.Turns.{Turned};
 
@@ -22,10 +23,10 @@ impl<'a, G: Copy> Table<'a, G> {
     // Settles the next statement, and offers all that follows from it.
     pub(crate) fn settle_one<K: Kind<Grade = G>>(&mut self, kind: &K) -> Turn
         ensures same { Same self.old self.new }
-        ensures state { Turned (K.Kind.algebra kind.now) self.old.phase.sizes.individuals (view self.old) (view self.new) result }
+        ensures state { Turned (K.Kind.algebra kind.now) (sizes_of self.old.phase).individuals (view self.old) (view self.new) result }
     {
         let newest = self.settled;
-        let individuals = self.phase.sizes.individuals;
+        let individuals = self.individuals();
         if newest >= self.len {
             return Turn::Nothing;
         }
@@ -37,6 +38,16 @@ impl<'a, G: Copy> Table<'a, G> {
             Turn::Settled
         } else {
             Turn::Overflowed
+        }
+    }
+
+    // How many individuals the run speaks of; none where no run is begun.
+    fn individuals(&self) -> u16
+        ensures { result ≡ (sizes_of self.now.phase).individuals }
+    {
+        match self.sizes() {
+            Ok(sizes) => sizes.individuals,
+            Err(_) => 0,
         }
     }
 
