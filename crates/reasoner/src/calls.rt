@@ -5,7 +5,7 @@ ghost use Rattle.std.specs.Prelude.{◌≡◌};
 ghost use Rattle.reasoner.specs.Filling.{Takes};
 
 use runs::Stand;
-use saturation::{Kept, Table};
+use saturation::{Kept, Phase, Table};
 use standpoint::{Kind, Refusal, Sizes, Statement, tautology, tautology_count};
 
 // Drops everything and starts with the tautologies of new sizes; refuses sizes out of range, then too few rows.
@@ -59,13 +59,11 @@ pub fn add<K: Kind>(
     ensures long { capacity (view reasoner.new) ≡ capacity (view reasoner.old) }
     ensures answer { Adds (K.Kind.algebra kind.now) statement grade reasoner.old reasoner.new result }
 {
-    if !reasoner.phase.begun {
-        return Err(Refusal::NotBegun);
-    }
-    if reasoner.phase.sealed {
-        return Err(Refusal::Sealed);
-    }
-    let sizes = reasoner.phase.sizes;
+    let sizes = match reasoner.phase {
+        Phase::Idle => return Err(Refusal::NotBegun),
+        Phase::Full(_) | Phase::Running(_) => return Err(Refusal::Sealed),
+        Phase::Taking(sizes) => sizes,
+    };
     if !statement.fits(&sizes) {
         return Err(Refusal::DoesNotFit);
     }
@@ -95,11 +93,10 @@ pub fn settle<K: Kind>(
     ensures long { capacity (view reasoner.new) ≡ capacity (view reasoner.old) }
     ensures answer { SettledSo (K.Kind.algebra kind.now) n reasoner.old reasoner.new result }
 {
-    if !reasoner.phase.begun {
-        return Err(Refusal::NotBegun);
-    }
-    if reasoner.phase.full {
-        return Ok((0, Stand::Full));
+    match reasoner.phase {
+        Phase::Idle => return Err(Refusal::NotBegun),
+        Phase::Full(_) => return Ok((0, Stand::Full)),
+        Phase::Taking(_) | Phase::Running(_) => {}
     }
     reasoner.seal(false);
     let (count, stand) = reasoner.settle(kind, n);
