@@ -37,12 +37,8 @@ pub fn ask<G: Clone + Copy + Drop>(
 fn settled_grade<G: Clone + Copy + Drop>(reasoner: &Table<'_, G>, statement: Statement) -> Option<G>
     ensures { RowGraded (view reasoner.now) statement result }
 {
-    let Some(i) = reasoner.find(statement) else {
-        return None;
-    };
-    if reasoner.rows[i].place == 0 {
-        return None;
-    }
+    let i = reasoner.find(statement)?;
+    reasoner.rows[i].place?;
     let grades: &[G] = reasoner.grades;
     Some(grades[i])
 }

@@ -1,6 +1,6 @@
 // The calls. Each tests in a fixed order, and a refusal leaves everything as it was.
 ghost use Rattle.saturation.specs.Tables.{view, capacity, OverSame, Same};
-ghost use Rattle.reasoner.specs.Calls.{Begun, Adds, SettledSo, is_full};
+ghost use Rattle.reasoner.specs.Calls.{Begun, Adds, SettledSo};
 ghost use Rattle.std.specs.Prelude.{◌≡◌};
 ghost use Rattle.reasoner.specs.Filling.{Takes};
 
@@ -39,13 +39,7 @@ fn take_tautology<K: Kind>(reasoner: &mut Table<'_, K::Grade>, kind: &K, x: Stat
     ensures taken { Takes (K.Kind.algebra kind.now) x (view reasoner.old) (view reasoner.new) }
 {
     let start = kind.start();
-    let kept = Kept {
-        rule: 24,
-        first: 0,
-        second: 0,
-        third: 0,
-    };
-    let _ = reasoner.offer(kind, x, start, kept);
+    let _ = reasoner.offer(kind, x, start, Kept::TAUTOLOGY);
 }
 
 // Accepts a statement with a grade; refuses with 1, 6, 4, 5 and 7 in this order.
@@ -70,13 +64,7 @@ pub fn add<K: Kind>(
     if statement.misplaced(sizes.individuals) {
         return Err(Refusal::MisplacedIndividual);
     }
-    let kept = Kept {
-        rule: 0,
-        first: 0,
-        second: 0,
-        third: 0,
-    };
-    if reasoner.offer(kind, statement, grade, kept) {
+    if reasoner.offer(kind, statement, grade, Kept::ACCEPTED) {
         Ok(())
     } else {
         Err(Refusal::RowsTaken)
@@ -100,15 +88,6 @@ pub fn settle<K: Kind>(
     }
     reasoner.seal(false);
     let (count, stand) = reasoner.settle(kind, n);
-    reasoner.seal(stands_full(stand));
+    reasoner.seal(matches!(stand, Stand::Full));
     Ok((count, stand))
-}
-
-fn stands_full(stand: Stand) -> bool
-    ensures { result ≡ is_full stand }
-{
-    match stand {
-        Stand::Full => true,
-        Stand::Open | Stand::Ended => false,
-    }
 }

@@ -39,7 +39,7 @@ statement_at s k = (row_at s k).statement
 
 -- row k is not settled
 abbrev pub OpenAt : {G : Type 0} → State G → ℕ → Type 0
-OpenAt s k = (row_at s k).place ≡ 0
+OpenAt s k = (row_at s k).place ≡ None
 
 -- the row that was settled k-th
 abbrev pub turn_at : {G : Type 0} → State G → ℕ → ℕ
@@ -78,7 +78,7 @@ abbrev pub turned : Row → ℕ → Row
 turned r i = row r.statement r.kept r.place i r.mark
 
 abbrev pub placed : Row → ℕ → Row
-placed r p = row r.statement r.kept p r.turn r.mark
+placed r p = row r.statement r.kept (Some p) r.turn r.mark
 
 abbrev pub with_turn : {G : Type 0} → State G → ℕ → ℕ → State G
 with_turn s k i = with_row s k (turned (row_at s k) i)
@@ -91,7 +91,7 @@ one_more s = record { rows = s.rows; grades = s.grades; len = s.len; settled = s
 
 -- row i is settled in the next turn
 abbrev pub settled_row : {G : Type 0} → State G → ℕ → State G
-settled_row s i = one_more (with_place (with_turn s s.settled i) i (s.settled + 1))
+settled_row s i = one_more (with_place (with_turn s s.settled i) i s.settled)
 
 -- no row is taken
 abbrev pub fresh : {G : Type 0} → List Row → List G → State G

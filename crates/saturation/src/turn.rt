@@ -1,10 +1,9 @@
 // One turn of a run.
 ghost use Rattle.std.specs.Prelude.{◌≡◌, ◌+◌, ◌<◌};
 ghost use Rattle.saturation.specs.Phases.{sizes_of};
-ghost use Rattle.saturation.specs.Tables.{view, Same, with_turn, with_place, settled_row};
+ghost use Rattle.saturation.specs.Tables.{view, Same, settled_row};
 ghost use Rattle.saturation.specs.Turns.{Turned};
 
-use crate::row::Row;
 use crate::table::Table;
 use standpoint::Kind;
 
@@ -58,38 +57,8 @@ impl<'a, G: Copy> Table<'a, G> {
         ensures state { view self.new ≡ settled_row (view self.old) i }
     {
         let k = self.settled;
-        self.put_turn(k, i);
-        self.put_place(i, k + 1);
+        self.rows[k].turn = i;
+        self.rows[i].place = Some(k);
         self.settled = k + 1;
-    }
-
-    fn put_turn(&mut self, k: usize, i: usize)
-        requires { (k < self.old.len) × (i < self.old.len) }
-        ensures same { Same self.old self.new }
-        ensures state { view self.new ≡ with_turn (view self.old) k i }
-    {
-        let row = self.rows[k];
-        self.rows[k] = Row {
-            statement: row.statement,
-            kept: row.kept,
-            place: row.place,
-            turn: i,
-            mark: row.mark,
-        };
-    }
-
-    fn put_place(&mut self, i: usize, place: usize)
-        requires { i < self.old.len }
-        ensures same { Same self.old self.new }
-        ensures state { view self.new ≡ with_place (view self.old) i place }
-    {
-        let row = self.rows[i];
-        self.rows[i] = Row {
-            statement: row.statement,
-            kept: row.kept,
-            place,
-            turn: row.turn,
-            mark: row.mark,
-        };
     }
 }
