@@ -21,7 +21,7 @@ use Rattle.saturation.specs.Tables.{State, view, capacity, statement_at, turn_at
 use Rattle.saturation.specs.Offering.{Apart}
 use Rattle.saturation.specs.Searching.{Lists}
 use Rattle.saturation.specs.Saturation.{Holds}
-use Rattle.saturation.proofs.Offers.{below_or, in_same}
+use Rattle.saturation.proofs.Offers.{below_or, not_both, in_same}
 use Rattle.saturation.proofs.Lists.{Fit}
 use Rattle.saturation.proofs.Stepping.{in_stands, in_getD}
 use Rattle.saturation.proofs.Counting.{not_full, some_open, all_closed}
@@ -49,8 +49,7 @@ module _ {G : Type 0} (s : State G) (l : Settled G) (is : Lists s l) (fit : Fit 
       let within = p.1.0 in
       let below : k < s.settled = omega arith in
       let there : statement_at s (turn_at s k) ≡ x = (is.holds k below (x, g)).0 ∙ ap (λ (v : Statement × G). v.0) (p.1.1 (x, g)) in
-      let marked = is.marked k below in
-      (turn_at s k, fit.1 k below, there, λ un. let z : ⊥ = omega arith in z)
+      (turn_at s k, fit.1 k below, there, not_both _ k (is.marked k below))
 
   -- no settled row holds x: it is not settled
   pub no_settled_row : (x : Statement) → Apart s → RowGraded s x None → Unsettled l x

@@ -1,5 +1,5 @@
 -- A settle seals the base and goes on with the run.
-use Rattle.std.proofs.Common.{◌≡◌, ℕ, false, ◌++◌, sym, ap, ◌∙◌, subst}
+use Rattle.std.proofs.Common.{◌≡◌, ℕ, false, ◌++◌, refl, sym, ap, ◌∙◌, subst}
 use Rattle.standpoint.specs.Sizes.{InRange}
 use Rattle.standpoint.specs.Algebra.{Algebra}
 use Rattle.standpoint.specs.Derivations.{Base}
@@ -14,6 +14,11 @@ use Rattle.saturation.specs.Tables.{State, view, capacity, Same}
 use Rattle.saturation.specs.Saturation.{Holds, HoldsAs, Settles}
 use Rattle.reasoner.specs.Models.{StandsFor}
 use Rattle.reasoner.specs.Calls.{is_full, after, SettlesOn}
+
+pub not_full : (stand : Stand) → (stand ≡ Full → ⊥) → is_full stand ≡ false
+not_full Open other = refl
+not_full Ended other = refl
+not_full Full other = absurd (other refl)
 
 -- the phase of a run that stands so
 phase_after : {G : Type 0} (al : Algebra G) (b : Base G) (l : Settled G) (v : Table G) (stand : Stand) →
