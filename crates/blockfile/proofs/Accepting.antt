@@ -43,10 +43,10 @@ module _ {G : Type 0} where
   -- what is refused depends only on what the reasoner holds and on its phase
   pub refused_same : (s t : Table G) (x : Statement) (why : Refusal) → Unchanged s t → AddRefused s x why → AddRefused t x why
   refused_same s t x _ u (before_begin a) = before_begin (rw u.1 a)
-  refused_same s t x _ u (after_settle a b) = after_settle (rw u.1 a) (rw u.1 b)
-  refused_same s t x _ u (misfit a b c) = misfit (rw u.1 a) (rw u.1 b) (rw u.1 c)
-  refused_same s t x _ u (individual a b c d) = individual (rw u.1 a) (rw u.1 b) (rw u.1 c) (rw u.1 d)
-  refused_same s t x _ u (no_row a b c d e f) = no_row (rw u.1 a) (rw u.1 b) (rw u.1 c) (rw u.1 d) (subst (λ (v : State G). has_room v ≡ false) (sym u.0) e) (subst (λ (v : State G). Absent v x) (sym u.0) f)
+  refused_same s t x _ u (after_settle a) = after_settle (rw u.1 a)
+  refused_same s t x _ u (misfit a b) = misfit (u.1 ∙ a) b
+  refused_same s t x _ u (individual a b c) = individual (u.1 ∙ a) b c
+  refused_same s t x _ u (no_row a b c d e) = no_row (u.1 ∙ a) b c (subst (λ (v : State G). has_room v ≡ false) (sym u.0) d) (subst (λ (v : State G). Absent v x) (sym u.0) e)
 
   module _ (al : Algebra G) (decoded : ℕ → Option G) (file : List ℕ) where
     pub stands_same : (base : Base G) (s t : Table G) → Unchanged s t → StandsFor al (based base) s → StandsFor al (based base) t
@@ -62,7 +62,7 @@ module _ {G : Type 0} where
         graded = decoded_ok (decoded (code_of file b p)) r g (read ∙ ap (λ m. or_no_grade (decoded m)) code) right
 
         pub record_accepted : Adds al x g s t (Ok tt) → RecordLoaded al decoded file b p s t (Ok tt)
-        record_accepted h = (g, graded, (subst (λ (y : Statement). Adds al y g s t (Ok tt)) is h).4)
+        record_accepted h = (g, graded, (subst (λ (y : Statement). Adds al y g s t (Ok tt)) is h).1)
 
         pub record_refused : (why : Refusal) → Adds al x g s t (Err why) → RecordLoaded al decoded file b p s t (Err (Add b p why))
         record_refused why h = (h.0, refl, refl, (g, graded, refused_same s t (statement_in file b p) why h.0 (subst (λ (y : Statement). AddRefused s y why) is h.1)))

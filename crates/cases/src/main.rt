@@ -23,7 +23,7 @@ fn empty_row() -> Row {
             second: 0,
             third: 0,
         },
-        place: 0,
+        place: None,
         turn: 0,
         mark: false,
     }

@@ -2,16 +2,16 @@
 use Rattle.std.proofs.Common.{◌≡◌, ℕ, ◌+◌, ◌<◌, ◌≤◌, true, false, List, length, Some, None, Ok, Err, Option, Result, sym, ap, ◌∙◌, subst, arith}
 use Rattle.std.specs.Option.{ok_or}
 use Rattle.standpoint.specs.declared.refusal.Refusal.{Refusal}
-use Rattle.standpoint.specs.declared.refusal.Refusal.TheVariants.{Unsettled, RestsOnLater, BufferTooShort}
+use Rattle.standpoint.specs.declared.refusal.Refusal.TheVariants.{NotBegun, Unsettled, RestsOnLater, BufferTooShort}
 use Rattle.standpoint.specs.declared.statement.Statement.{Statement}
 use Rattle.standpoint.specs.declared.step.Step.{Step}
-use Rattle.saturation.specs.declared.table.Phase.{Phase}
 use Rattle.saturation.specs.declared.table.Table.{Table}
+use Rattle.saturation.specs.Phases.{is_begun}
 use Rattle.saturation.specs.Rows.{Unmarked}
 use Rattle.saturation.specs.Tables.{State, view}
 use Rattle.explanation.specs.Needed.{Unfounded, rank, Written}
-use Rattle.explanation.specs.Marks.{begun_as, mark_at, Clean, ButMarks, MarksDown}
-use Rattle.explanation.specs.Explaining.{Asked, FirstSettled, SettledAs, Finds, NotFound, not_settled, NotWritten, rests_on_later, Writes, WritesNeeded, not_found, not_written, Explains}
+use Rattle.explanation.specs.Marks.{mark_at, Clean, ButMarks, MarksDown}
+use Rattle.explanation.specs.Explaining.{Asked, FirstSettled, SettledAs, Finds, NotFound, before_begin, not_settled, NotWritten, rests_on_later, Writes, WritesNeeded, not_found, not_written, Explains}
 use Rattle.explanation.proofs.ButMarks.{but_marks_trans, clean_same, written_same}
 use Rattle.explanation.proofs.Marking.{marks_chosen, marks_founded}
 
@@ -19,6 +19,9 @@ module _ {G : Type 0} where
   pub finds : (s : Table G) (x : Statement) (o : Option ℕ) (r : Result ℕ Refusal) → r ≡ ok_or o Unsettled → Asked s x → SettledAs (view s) x o → Finds s x r
   finds s x None r is asked at = subst (Finds s x) (sym is) (not_settled asked at)
   finds s x (Some t) r is asked at = subst (Finds s x) (sym is) (asked, at)
+
+  pub finds_idle : (s : Table G) (x : Statement) (r : Result ℕ Refusal) → r ≡ Err NotBegun → is_begun s.phase ≡ false → Finds s x r
+  finds_idle s x r is off = subst (Finds s x) (sym is) (before_begin off)
 
   pub refuses_later : (s : State G) (t : ℕ) (old new : List (Step G)) (r : Result ℕ Refusal) (e : Refusal) → r ≡ Err e → e ≡ RestsOnLater → new ≡ old → Unfounded s t → Writes s t old new r
   refuses_later s t old new r e is later same un = subst (Writes s t old new) (sym (is ∙ ap Err later)) (same, rests_on_later un)
@@ -49,15 +52,12 @@ module _ {G : Type 0} where
     }
 
   -- not begun, then marked, then cleared
-  module _ (a h l u : Table G) (begun : a.phase.begun ≡ true) (held : view h ≡ view a) (marked : ButMarks (view h) (view l)) (cleared : ButMarks (view l) (view u)) (clean : Clean (view u)) where
+  module _ (a h l u : Table G) (begun : is_begun a.phase ≡ true) (held : view h ≡ view a) (marked : ButMarks (view h) (view l)) (cleared : ButMarks (view l) (view u)) (clean : Clean (view u)) where
     pub rows_as_before : view u ≡ view a
     rows_as_before =
         let f = a.settled_fit in
         let all = but_marks_trans (view a) (view l) (view u) (subst (λ (v : State G). ButMarks v (view l)) held marked) cleared in
         clean_same (view a) (view u) all (λ k lt. a.marks begun k (omega arith)) clean
 
-    pub unmarked : Unmarked u.rows.now u.len true
-    unmarked = subst (λ (s : State G). Unmarked s.rows s.len true) (sym rows_as_before) (λ _. a.marks begun)
-
-pub phase_as_before : (a h l u v : Phase) → a.begun ≡ true → h ≡ begun_as a false → l ≡ h → u ≡ l → v ≡ begun_as u true → v ≡ a
-phase_as_before a h l u v begun held marked cleared freed = freed ∙ ap (λ (p : Phase). begun_as p true) (cleared ∙ marked ∙ held) ∙ ap (begun_as a) (sym begun)
+    pub unmarked : Unmarked u.rows.now u.len (is_begun a.phase)
+    unmarked = subst (λ (s : State G). Unmarked s.rows s.len (is_begun a.phase)) (sym rows_as_before) a.marks

@@ -15,6 +15,7 @@ use Rattle.runs.specs.Runs as runs
 use Rattle.runs.specs.Runs.{Settled}
 use Rattle.runs.proofs.Best.{settled_is_best}
 use Rattle.saturation.specs.declared.table.Table.{Table}
+use Rattle.saturation.specs.Phases.{is_begun, sizes_of}
 use Rattle.saturation.specs.Tables.{view}
 use Rattle.reasoner.proofs.Holding.{Held}
 use Rattle.explanation.specs.Explaining.{NoneBelow, FirstSettled, NotFound, NotWritten, NotExplained, Explains, Explanation, Unexplained, ExplainsAs, WritesNeeded}
@@ -48,11 +49,11 @@ module _ {G : Type 0} (a : Algebra G) (laws : Laws a) (b : Base G) (l : Settled 
       let within : p.0 < s.settled = omega arith in
       none p.0 within ((h.lists.holds p.0 within (x, g)).0 ∙ ap (λ (v : Statement × G). v.0) (p.1.1 (x, g)))
 
-  fits_here : Fits b.sizes x → Fits s.phase.sizes x
+  fits_here : Fits b.sizes x → Fits (sizes_of s.phase) x
   fits_here f = subst (λ (n : Sizes). Fits n x) (sym h.sizes) f
 
   unfound_means : (room : ℕ) {e : Refusal} → NotFound s x e → Unexplained b l x room e
-  unfound_means room (before_begin off) = absurd (both_ways s.phase.begun off h.begun)
+  unfound_means room (before_begin off) = absurd (both_ways (is_begun s.phase) off h.begun)
   unfound_means room (misfit begun unfit) = Unexplained.does_not_fit (λ f. unfit (fits_here f))
   unfound_means room (not_settled asked none) = Unexplained.unsettled (none_settled none)
 

@@ -13,6 +13,7 @@ use Rattle.standpoint.specs.Verdicts.{Passes, MeetsAccepted}
 use Rattle.runs.specs.Runs as runs
 use Rattle.runs.specs.Runs.{Settled}
 use Rattle.saturation.specs.declared.table.Table.{Table}
+use Rattle.saturation.specs.Phases.{is_begun, sizes_of}
 use Rattle.saturation.specs.Tables.{State, view, statement_at, turn_at}
 use Rattle.explanation.specs.Needed.{Founded, Unfounded, rank, Chooses, Written}
 
@@ -33,13 +34,13 @@ SettledAs s x (Some t) = FirstSettled s x t
 
 -- the reasoner is begun, and the statement fits its sizes
 pub record Asked {G : Type 0} (s : Table G) (x : Statement) : Type 0 where
-  pub begun : s.phase.begun ≡ true
-  pub fits : Fits s.phase.sizes x
+  pub begun : is_begun s.phase ≡ true
+  pub fits : Fits (sizes_of s.phase) x
 
 -- no settled place is found: the first refusal that applies
 pub data NotFound {G : Type 0} (s : Table G) (x : Statement) : Refusal → Type 0 where
-  before_begin : s.phase.begun ≡ false → NotFound s x NotBegun
-  misfit : s.phase.begun ≡ true → (Fits s.phase.sizes x → ⊥) → NotFound s x DoesNotFit
+  before_begin : is_begun s.phase ≡ false → NotFound s x NotBegun
+  misfit : is_begun s.phase ≡ true → (Fits (sizes_of s.phase) x → ⊥) → NotFound s x DoesNotFit
   not_settled : Asked s x → NoneBelow (view s) x s.settled → NotFound s x Unsettled
 
 -- the settling place of a statement

@@ -3,14 +3,9 @@ use Rattle.std.specs.Prelude.{◌≡◌, ℕ, ◌+◌, ◌<◌, ◌≤◌, Bool,
 use Rattle.standpoint.specs.declared.refusal.Refusal.{Refusal}
 use Rattle.standpoint.specs.declared.refusal.Refusal.TheVariants.{RestsOnLater}
 use Rattle.saturation.specs.declared.row.Row.{Row}
-use Rattle.saturation.specs.declared.table.Phase.{Phase}
 use Rattle.saturation.specs.Rows.{row}
-use Rattle.saturation.specs.Tables.{State, row_at, with_row, phase}
+use Rattle.saturation.specs.Tables.{State, row_at, with_row}
 use Rattle.explanation.specs.Needed.{Rests, Needed, Unfounded}
-
--- the same phase, but begun or not
-abbrev pub begun_as : Phase → Bool → Phase
-begun_as p begun = phase p.sizes begun p.sealed p.full
 
 abbrev pub mark_at : {G : Type 0} → State G → ℕ → Bool
 mark_at s k = (row_at s k).mark

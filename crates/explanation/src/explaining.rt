@@ -3,15 +3,16 @@ ghost use Rattle.std.specs.Prelude.{◌≡◌, ◌<◌, false};
 ghost use Rattle.standpoint.specs.Algebra.{Algebra, Laws};
 ghost use Rattle.standpoint.specs.Derivations.{Base};
 ghost use Rattle.runs.specs.Runs.{Settled};
+ghost use Rattle.saturation.specs.Phases.{is_begun};
 ghost use Rattle.saturation.specs.Tables.{view, Same, OverSame};
 ghost use Rattle.reasoner.specs.Models.{Holding};
 ghost use Rattle.reasoner.specs.Calls.{Unchanged};
 ghost use Rattle.explanation.specs.Marks.{ButMarks, Clean};
 ghost use Rattle.explanation.specs.Explaining.{Explains, ExplainsAs, Finds, SettledAs, Writes};
 
-use crate::marks::{clear, mark_needed, set_begun};
+use crate::marks::{clear, mark_needed, set_phase};
 use crate::writing::{count_marked, write_marked};
-use saturation::Table;
+use saturation::{Phase, Table};
 use standpoint::{Refusal, Statement, Step};
 
 // Writes the kept steps that a settled statement rests on, each once, in settling order, its own last: how many.
@@ -28,10 +29,11 @@ pub fn explain<G: Clone + Copy + Drop>(
 {
     let t = settling_place(reasoner, statement)?;
     // Marks may stand only in a reasoner that is not begun.
-    set_begun(reasoner, false);
+    let phase = reasoner.phase;
+    set_phase(reasoner, Phase::Idle);
     let written = write_needed(reasoner, t, buffer);
     clear(reasoner);
-    set_begun(reasoner, true);
+    set_phase(reasoner, phase);
     written
 }
 
@@ -39,10 +41,8 @@ pub fn explain<G: Clone + Copy + Drop>(
 fn settling_place<G: Copy>(reasoner: &Table<'_, G>, statement: Statement) -> Result<usize, Refusal>
     ensures { Finds reasoner.now statement result }
 {
-    if !reasoner.phase.begun {
-        return Err(Refusal::NotBegun);
-    }
-    if !statement.fits(&reasoner.phase.sizes) {
+    let sizes = reasoner.sizes()?;
+    if !statement.fits(&sizes) {
         return Err(Refusal::DoesNotFit);
     }
     first_settled(reasoner, statement).ok_or(Refusal::Unsettled)
@@ -68,7 +68,7 @@ fn write_needed<G: Clone + Copy + Drop>(
     t: usize,
     buffer: &mut [Step<G>],
 ) -> Result<usize, Refusal>
-    requires { (t < reasoner.old.settled) × (reasoner.old.phase.begun ≡ false) × Clean (view reasoner.old) }
+    requires { (t < reasoner.old.settled) × (is_begun reasoner.old.phase ≡ false) × Clean (view reasoner.old) }
     ensures same { Same reasoner.old reasoner.new }
     ensures state { ButMarks (view reasoner.old) (view reasoner.new) }
     ensures answer { Writes (view reasoner.old) t buffer.old buffer.new result }

@@ -1,21 +1,22 @@
 // Marks at settling places. They may stand only while the reasoner counts as not begun.
 ghost use Rattle.std.specs.Prelude.{◌≡◌, ◌+◌, ◌<◌, ◌≤◌, true, false};
+ghost use Rattle.saturation.specs.Phases.{is_begun};
 ghost use Rattle.saturation.specs.Rows.{Unmarked};
 ghost use Rattle.saturation.specs.Tables.{view, Same, OverSame};
 ghost use Rattle.explanation.specs.Needed.{kept_at, Rests};
-ghost use Rattle.explanation.specs.Marks.{begun_as, mark_at, with_mark, Clean, ButMarks, AddsMarks, RestsEarlier, MarksNeeded};
+ghost use Rattle.explanation.specs.Marks.{mark_at, with_mark, Clean, ButMarks, AddsMarks, RestsEarlier, MarksNeeded};
 
-use saturation::{Kept, Table};
+use saturation::{Kept, Phase, Table};
 use standpoint::Refusal;
 
 // A reasoner counts as begun only without marks.
-pub(crate) fn set_begun<G: Copy>(reasoner: &mut Table<'_, G>, begun: bool)
-    requires { Unmarked reasoner.old.rows.now reasoner.old.len begun }
+pub(crate) fn set_phase<G: Copy>(reasoner: &mut Table<'_, G>, phase: Phase)
+    requires { Unmarked reasoner.old.rows.now reasoner.old.len (is_begun phase) }
     ensures memory { OverSame reasoner.old reasoner.new }
     ensures state { view reasoner.new ≡ view reasoner.old }
-    ensures phase { reasoner.new.phase ≡ begun_as reasoner.old.phase begun }
+    ensures phase { reasoner.new.phase ≡ phase }
 {
-    reasoner.phase.begun = begun;
+    reasoner.phase = phase;
 }
 
 pub(crate) fn marked<G: Copy>(reasoner: &Table<'_, G>, k: usize) -> bool
@@ -26,7 +27,7 @@ pub(crate) fn marked<G: Copy>(reasoner: &Table<'_, G>, k: usize) -> bool
 }
 
 fn set_mark<G: Copy>(reasoner: &mut Table<'_, G>, k: usize, mark: bool)
-    requires { (k < reasoner.old.settled) × (reasoner.old.phase.begun ≡ false) }
+    requires { (k < reasoner.old.settled) × (is_begun reasoner.old.phase ≡ false) }
     ensures same { Same reasoner.old reasoner.new }
     ensures state { view reasoner.new ≡ with_mark (view reasoner.old) k mark }
 {
@@ -35,7 +36,7 @@ fn set_mark<G: Copy>(reasoner: &mut Table<'_, G>, k: usize, mark: bool)
 
 // Takes all marks back.
 pub(crate) fn clear<G: Copy>(reasoner: &mut Table<'_, G>)
-    requires { reasoner.old.phase.begun ≡ false }
+    requires { is_begun reasoner.old.phase ≡ false }
     ensures same { Same reasoner.old reasoner.new }
     ensures state { ButMarks (view reasoner.old) (view reasoner.new) }
     ensures clean { Clean (view reasoner.new) }
@@ -65,7 +66,7 @@ fn rests_earlier<G: Copy>(reasoner: &Table<'_, G>, k: usize) -> bool
 
 // Marks a place that counts from 1; 0 is none.
 fn mark_place<G: Copy>(reasoner: &mut Table<'_, G>, place: usize)
-    requires { (place ≤ reasoner.old.settled) × (reasoner.old.phase.begun ≡ false) }
+    requires { (place ≤ reasoner.old.settled) × (is_begun reasoner.old.phase ≡ false) }
     ensures same { Same reasoner.old reasoner.new }
     ensures state { AddsMarks (view reasoner.old) (view reasoner.new) (λ j. place ≡ j + 1) }
 {
@@ -76,7 +77,7 @@ fn mark_place<G: Copy>(reasoner: &mut Table<'_, G>, place: usize)
 
 // Marks what the k-th settled statement rests on at once.
 fn mark_premises<G: Copy>(reasoner: &mut Table<'_, G>, k: usize)
-    requires { (k < reasoner.old.settled) × (reasoner.old.phase.begun ≡ false) × RestsEarlier (view reasoner.old) k true }
+    requires { (k < reasoner.old.settled) × (is_begun reasoner.old.phase ≡ false) × RestsEarlier (view reasoner.old) k true }
     ensures same { Same reasoner.old reasoner.new }
     ensures state { AddsMarks (view reasoner.old) (view reasoner.new) (Rests (view reasoner.old) k) }
 {
@@ -88,7 +89,7 @@ fn mark_premises<G: Copy>(reasoner: &mut Table<'_, G>, k: usize)
 
 // Marks all that the t-th settled statement rests on, from the last to the first; refuses a step that rests on a later one.
 pub(crate) fn mark_needed<G: Copy>(reasoner: &mut Table<'_, G>, t: usize) -> Result<(), Refusal>
-    requires { (t < reasoner.old.settled) × (reasoner.old.phase.begun ≡ false) × Clean (view reasoner.old) }
+    requires { (t < reasoner.old.settled) × (is_begun reasoner.old.phase ≡ false) × Clean (view reasoner.old) }
     ensures same { Same reasoner.old reasoner.new }
     ensures state { MarksNeeded (view reasoner.old) (view reasoner.new) t result }
 {

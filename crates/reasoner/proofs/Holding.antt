@@ -1,30 +1,29 @@
 -- What is known of a reasoner that holds a run.
-use Rattle.std.proofs.Common.{◌≡◌, Bool, true, false, ap}
+use Rattle.std.proofs.Common.{◌≡◌, true, ap}
 use Rattle.standpoint.specs.Sizes.{InRange}
 use Rattle.standpoint.specs.Algebra.{Algebra}
 use Rattle.standpoint.specs.Derivations.{Base}
 use Rattle.runs.specs.Runs.{Settled, Run}
-use Rattle.saturation.specs.declared.table.Phase.{Phase}
 use Rattle.saturation.specs.declared.table.Table.{Table}
-use Rattle.saturation.specs.Tables.{view, phase}
+use Rattle.saturation.specs.Phases.{is_begun, sizes_of}
+use Rattle.saturation.specs.Tables.{view}
 use Rattle.saturation.specs.Offering.{Apart, Explained}
 use Rattle.saturation.specs.Searching.{Lists}
 use Rattle.reasoner.specs.Models.{Holding, taking, going, standing}
 
 pub record Held {G : Type 0} (a : Algebra G) (b : Base G) (t : Table G) (l : Settled G) : Type 0 where
-  pub begun : t.phase.begun ≡ true
-  pub sizes : t.phase.sizes ≡ b.sizes
+  pub begun : is_begun t.phase ≡ true
+  pub sizes : sizes_of t.phase ≡ b.sizes
   pub in_range : InRange b.sizes
   pub run : Run a b l
   pub lists : Lists (view t) l
   pub apart : Apart (view t)
   pub explained : Explained a b l (view t)
 
-held_parts : {G : Type 0} {a : Algebra G} {b : Base G} {t : Table G} {l : Settled G} (sealed full : Bool) → t.phase ≡ phase b.sizes true sealed full →
-    InRange b.sizes → Run a b l → Lists (view t) l → Apart (view t) → Explained a b l (view t) → Held a b t l
-held_parts sealed full is range run lists apart explained = record {
-  begun = ap (λ (p : Phase). p.begun) is;
-  sizes = ap (λ (p : Phase). p.sizes) is;
+held_parts : {G : Type 0} {a : Algebra G} {b : Base G} {t : Table G} {l : Settled G} → is_begun t.phase ≡ true → sizes_of t.phase ≡ b.sizes → InRange b.sizes → Run a b l → Lists (view t) l → Apart (view t) → Explained a b l (view t) → Held a b t l
+held_parts begun sizes range run lists apart explained = record {
+  begun = begun;
+  sizes = sizes;
   in_range = range;
   run = run;
   lists = lists;
@@ -33,6 +32,6 @@ held_parts sealed full is range run lists apart explained = record {
 }
 
 pub held : {G : Type 0} {a : Algebra G} {b : Base G} {t : Table G} {l : Settled G} → Holding a b t l → Held a b t l
-held (taking (is, range, h)) = held_parts false false is range h.run h.lists h.rows.apart h.explained
-held (going (is, range, h)) = held_parts true false is range h.run h.lists h.rows.apart h.explained
-held (standing (is, range, h)) = held_parts true true is range h.run h.lists h.apart h.explained
+held (taking (is, range, h)) = held_parts (ap is_begun is) (ap sizes_of is) range h.run h.lists h.rows.apart h.explained
+held (going (is, range, h)) = held_parts (ap is_begun is) (ap sizes_of is) range h.run h.lists h.rows.apart h.explained
+held (standing (is, range, h)) = held_parts (ap is_begun is) (ap sizes_of is) range h.run h.lists h.apart h.explained

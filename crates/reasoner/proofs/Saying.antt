@@ -1,7 +1,9 @@
 -- What the rows tell of a statement, and of how the run stands.
-use Rattle.std.proofs.Common.{◌≡◌, ℕ, ◌<◌, ◌≤◌, Bool, true, false, cond, leb, ◌⊎◌, get_or, Some, None, sym, ap, ◌∙◌, subst, ⊎_elim, arith}
+use Rattle.std.proofs.Common.{◌≡◌, ℕ, ◌<◌, ◌≤◌, Bool, true, false, cond, leb, ◌⊎◌, get_or, Some, None, Err, Result, sym, ap, ◌∙◌, subst, ⊎_elim, arith}
 use borrow.Author.Tests.{both_ways}
 use Rattle.std.proofs.lemmas.Bool.Decides.{nat_tests}
+use Rattle.standpoint.specs.declared.refusal.Refusal.{Refusal}
+use Rattle.standpoint.specs.declared.refusal.Refusal.TheVariants.{NotBegun}
 use Rattle.standpoint.specs.declared.statement.Statement.{Statement}
 use Rattle.standpoint.specs.Lists.{In}
 use Rattle.standpoint.specs.Algebra.{Algebra, Laws}
@@ -11,13 +13,15 @@ use Rattle.runs.specs.declared.Stand.{Stand}
 use Rattle.runs.specs.declared.Stand.TheVariants.{Open, Ended, Full}
 use Rattle.runs.specs.Runs.{Settled, Unsettled, Stands}
 use Rattle.runs.proofs.Best.{settled_is_best, none_is_exact}
-use Rattle.saturation.specs.declared.table.Phase.{Phase}
 use Rattle.saturation.specs.declared.table.Table.{Table}
+use Rattle.standpoint.specs.declared.sizes.Sizes.{Sizes}
+use Rattle.saturation.specs.declared.phase.Phase.TheVariants as phase
+use Rattle.saturation.specs.Phases.{is_begun, stands_full}
 use Rattle.saturation.specs.Tables.{State, view, capacity, statement_at, turn_at, OpenAt}
 use Rattle.saturation.specs.Offering.{Apart}
 use Rattle.saturation.specs.Searching.{Lists}
 use Rattle.saturation.specs.Saturation.{Holds}
-use Rattle.saturation.proofs.Offers.{below_or, in_same}
+use Rattle.saturation.proofs.Offers.{below_or, not_both, in_same}
 use Rattle.saturation.proofs.Lists.{Fit}
 use Rattle.saturation.proofs.Stepping.{in_stands, in_getD}
 use Rattle.saturation.proofs.Counting.{not_full, some_open, all_closed}
@@ -25,7 +29,7 @@ use Rattle.saturation.proofs.Lasting.{fits_capacity}
 use Rattle.reasoner.specs.Models.{Holding, taking, going, standing}
 use Rattle.reasoner.specs.declared.asking.Answer.{Answer}
 use Rattle.reasoner.specs.declared.asking.Answer.TheVariants.{Graded, Nothing, Pending}
-use Rattle.reasoner.specs.Asking.{Says, RowGraded, LeftOver}
+use Rattle.reasoner.specs.Asking.{Says, before_begin, Asked, RowGraded, LeftOver}
 use Rattle.reasoner.proofs.Holding.{held}
 
 -- the facts of a table that its ghost fields hold
@@ -45,8 +49,7 @@ module _ {G : Type 0} (s : State G) (l : Settled G) (is : Lists s l) (fit : Fit 
       let within = p.1.0 in
       let below : k < s.settled = omega arith in
       let there : statement_at s (turn_at s k) ≡ x = (is.holds k below (x, g)).0 ∙ ap (λ (v : Statement × G). v.0) (p.1.1 (x, g)) in
-      let marked = is.marked k below in
-      (turn_at s k, fit.1 k below, there, λ un. let z : ⊥ = omega arith in z)
+      (turn_at s k, fit.1 k below, there, not_both _ k (is.marked k below))
 
   -- no settled row holds x: it is not settled
   pub no_settled_row : (x : Statement) → Apart s → RowGraded s x None → Unsettled l x
@@ -88,16 +91,16 @@ other_room r m n is other =
 
 module _ {G : Type 0} (a : Algebra G) (b : Base G) (t : Table G) where
   -- a run that stands full does not stand ended
-  pub full_not_ended : {l : Settled G} → t.phase.full ≡ true → Holding a b t l → Stands a b (capacity (view t)) l Ended → ⊥
-  full_not_ended full (taking (is, range, h)) ended = both_ways _ (ap (λ (p : Phase). p.full) is) full
-  full_not_ended full (going (is, range, h)) ended = both_ways _ (ap (λ (p : Phase). p.full) is) full
-  full_not_ended full (standing (is, range, h)) ended = ended.0 h.full
+  pub full_not_ended : {l : Settled G} (n : Sizes) → t.phase ≡ phase.Full n → Holding a b t l → Stands a b (capacity (view t)) l Ended → ⊥
+  full_not_ended n full (taking (is, range, h)) ended = both_ways _ (ap stands_full is) (ap stands_full full)
+  full_not_ended n full (going (is, range, h)) ended = both_ways _ (ap stands_full is) (ap stands_full full)
+  full_not_ended n full (standing (is, range, h)) ended = ended.0 h.full
 
   -- every row is settled: the run stands ended
-  pub out_ended : {l : Settled G} → t.phase.full ≡ false → t.len ≤ t.settled → Holding a b t l → Stands a b (capacity (view t)) l Ended
+  pub out_ended : {l : Settled G} → ((n : Sizes) → t.phase ≡ phase.Full n → ⊥) → t.len ≤ t.settled → Holding a b t l → Stands a b (capacity (view t)) l Ended
   out_ended free out (taking (is, range, h)) = (not_full a b _ (view t) h (few_rows t), all_closed a b _ (view t) h (fit_of t) out)
   out_ended free out (going (is, range, h)) = (not_full a b _ (view t) h (few_rows t), all_closed a b _ (view t) h (fit_of t) out)
-  out_ended free out (standing (is, range, h)) = absurd (both_ways _ free (ap (λ (p : Phase). p.full) is))
+  out_ended free out (standing (is, range, h)) = absurd (free b.sizes is)
 
   waiting_not_ended : {l : Settled G} → Holds a b l (view t) → t.settled < t.len → Stands a b (capacity (view t)) l Ended → ⊥
   waiting_not_ended h room ended =
@@ -131,3 +134,7 @@ module _ {G : Type 0} (a : Algebra G) (b : Base G) (t : Table G) where
     said_without row (Graded g) none = absurd none
     said_without row Nothing ended = says_nothing row (ended a b l h)
     said_without row Pending still = says_pending row (still a b l h)
+
+-- nothing is said before begin
+pub refuses_idle : {G : Type 0} (s : Table G) (x : Statement) (r : Result (Answer G) Refusal) → r ≡ Err NotBegun → is_begun s.phase ≡ false → Asked s x r
+refuses_idle s x r is off = subst (Asked s x) (sym is) (before_begin off)

@@ -12,6 +12,7 @@ use Rattle.standpoint.specs.Verdicts.{MeetsAccepted}
 use Rattle.runs.specs.declared.Stand.TheVariants.{Ended}
 use Rattle.runs.specs.Runs.{Settled, Unsettled, Stands}
 use Rattle.saturation.specs.declared.table.Table.{Table}
+use Rattle.saturation.specs.Phases.{is_begun, sizes_of}
 use Rattle.saturation.specs.Tables.{State, view, capacity, statement_at, OpenAt, Absent}
 use Rattle.reasoner.specs.declared.asking.Answer.{Answer}
 use Rattle.reasoner.specs.declared.asking.Answer.TheVariants.{Graded, Nothing, Pending}
@@ -36,13 +37,13 @@ Says a b l rows x Pending = Unsettled l x × (Stands a b rows l Ended → ⊥)
 
 -- the first refusal of ask that applies
 pub data AskRefused {G : Type 0} (s : Table G) (x : Statement) : Refusal → Type 0 where
-  before_begin : s.phase.begun ≡ false → AskRefused s x NotBegun
-  misfit : s.phase.begun ≡ true → (Fits s.phase.sizes x → ⊥) → AskRefused s x DoesNotFit
+  before_begin : is_begun s.phase ≡ false → AskRefused s x NotBegun
+  misfit : is_begun s.phase ≡ true → (Fits (sizes_of s.phase) x → ⊥) → AskRefused s x DoesNotFit
 
 -- the answer of ask, for every kind and every history that the reasoner may hold
 abbrev pub Asked : {G : Type 0} → Table G → Statement → Result (Answer G) Refusal → Type 0
 Asked {G} s x (Ok said) =
-    (s.phase.begun ≡ true) × Fits s.phase.sizes x
+    (is_begun s.phase ≡ true) × Fits (sizes_of s.phase) x
     × ((a : Algebra G) → Laws a → (b : Base G) (l : Settled G) → Holding a b s l → Says a b l (capacity (view s)) x said)
 Asked s x (Err e) = AskRefused s x e
 

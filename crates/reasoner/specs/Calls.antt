@@ -14,6 +14,8 @@ use Rattle.runs.specs.declared.Stand.{Stand}
 use Rattle.runs.specs.declared.Stand.TheVariants.{Open, Ended, Full}
 use Rattle.runs.specs.Runs.{Settled, Known, Settling, Stands}
 use Rattle.saturation.specs.declared.table.Table.{Table}
+use Rattle.saturation.specs.declared.phase.Phase.TheVariants.{Taking}
+use Rattle.saturation.specs.Phases.{is_begun, is_sealed}
 use Rattle.saturation.specs.Tables.{view, capacity, has_room, Absent}
 use Rattle.reasoner.specs.Models.{Model, based, running, stopped, empty_base, accepting, StandsFor}
 
@@ -29,12 +31,11 @@ Begun a n s t (Err e) =
 
 -- the first refusal of add that applies, over what the reasoner holds
 pub data AddRefused {G : Type 0} (s : Table G) (x : Statement) : Refusal → Type 0 where
-  before_begin : s.phase.begun ≡ false → AddRefused s x NotBegun
-  after_settle : s.phase.begun ≡ true → s.phase.sealed ≡ true → AddRefused s x Sealed
-  misfit : s.phase.begun ≡ true → s.phase.sealed ≡ false → (Fits s.phase.sizes x → ⊥) → AddRefused s x DoesNotFit
-  individual : s.phase.begun ≡ true → s.phase.sealed ≡ false → Fits s.phase.sizes x → Misplaced s.phase.sizes.individuals x → AddRefused s x MisplacedIndividual
-  no_row : s.phase.begun ≡ true → s.phase.sealed ≡ false → Fits s.phase.sizes x → (Misplaced s.phase.sizes.individuals x → ⊥) →
-      has_room (view s) ≡ false → Absent (view s) x → AddRefused s x RowsTaken
+  before_begin : is_begun s.phase ≡ false → AddRefused s x NotBegun
+  after_settle : is_sealed s.phase ≡ true → AddRefused s x Sealed
+  misfit : {n : Sizes} → s.phase ≡ Taking n → (Fits n x → ⊥) → AddRefused s x DoesNotFit
+  individual : {n : Sizes} → s.phase ≡ Taking n → Fits n x → Misplaced n.individuals x → AddRefused s x MisplacedIndividual
+  no_row : {n : Sizes} → s.phase ≡ Taking n → Fits n x → (Misplaced n.individuals x → ⊥) → has_room (view s) ≡ false → Absent (view s) x → AddRefused s x RowsTaken
 
 -- as many statements are known as there are rows
 abbrev pub AllRowsTaken : {G : Type 0} → Algebra G → Base G → ℕ → Type 0
@@ -43,7 +44,7 @@ AllRowsTaken a base rows = (xs : List Statement) × Distinct xs × ((x : Stateme
 -- what add makes of a base: one statement more, or it is refused since it is new and all rows are taken
 abbrev pub Adds : {G : Type 0} → Algebra G → Statement → G → Table G → Table G → Result (Unit {0}) Refusal → Type 0
 Adds {G} a x g s t (Ok _) =
-    (s.phase.begun ≡ true) × (s.phase.sealed ≡ false) × Fits s.phase.sizes x × (Misplaced s.phase.sizes.individuals x → ⊥)
+    ((n : Sizes) × (s.phase ≡ Taking n) × Fits n x × (Misplaced n.individuals x → ⊥))
     × ((b : Base G) → StandsFor a (based b) s → StandsFor a (based (accepting b x g)) t)
 Adds {G} a x g s t (Err e) =
     Unchanged s t × AddRefused s x e
@@ -69,8 +70,8 @@ SettlesOn {G} a n b l s t count stand =
 -- settle seals the base and settles; it refuses only a reasoner that is not begun
 abbrev pub SettledSo : {G : Type 0} → Algebra G → ℕ → Table G → Table G → Result (ℕ × Stand) Refusal → Type 0
 SettledSo {G} a n s t (Ok r) =
-    (s.phase.begun ≡ true)
+    (is_begun s.phase ≡ true)
     × ((b : Base G) → StandsFor a (based b) s → SettlesOn a n b [] s t r.0 r.1)
     × ((b : Base G) (l : Settled G) → StandsFor a (running b l) s → SettlesOn a n b l s t r.0 r.1)
     × ((b : Base G) (l : Settled G) → StandsFor a (stopped b l) s → (r.0 ≡ 0) × (r.1 ≡ Full) × StandsFor a (stopped b l) t)
-SettledSo a n s t (Err e) = Unchanged s t × (e ≡ NotBegun) × (s.phase.begun ≡ false)
+SettledSo a n s t (Err e) = Unchanged s t × (e ≡ NotBegun) × (is_begun s.phase ≡ false)

@@ -1,5 +1,5 @@
 -- What a reasoner stands for.
-use Rattle.std.specs.Prelude.{◌≡◌, true, false, [], ◌∷◌}
+use Rattle.std.specs.Prelude.{◌≡◌, [], ◌∷◌}
 use Rattle.standpoint.specs.declared.sizes.Sizes.{Sizes}
 use Rattle.standpoint.specs.declared.statement.Statement.{Statement}
 use Rattle.standpoint.specs.Sizes.{InRange}
@@ -7,7 +7,8 @@ use Rattle.standpoint.specs.Algebra.{Algebra}
 use Rattle.standpoint.specs.Derivations.{Base}
 use Rattle.runs.specs.Runs.{Settled}
 use Rattle.saturation.specs.declared.table.Table.{Table}
-use Rattle.saturation.specs.Tables.{view, phase}
+use Rattle.saturation.specs.declared.phase.Phase.TheVariants.{Idle, Taking, Running, Full}
+use Rattle.saturation.specs.Tables.{view}
 use Rattle.saturation.specs.Saturation.{Holds, HoldsFull}
 
 -- not begun; begun with a base that takes statements; sealed with what was settled; the same, standing full
@@ -27,10 +28,10 @@ accepting b x g = record { sizes = b.sizes; accepted = (x, g) ∷ b.accepted }
 
 -- the reasoner stands for the model, under a kind of grade
 abbrev pub StandsFor : {G : Type 0} → Algebra G → Model G → Table G → Type 0
-StandsFor a idle t = t.phase.begun ≡ false
-StandsFor a (based b) t = (t.phase ≡ phase b.sizes true false false) × InRange b.sizes × Holds a b [] (view t)
-StandsFor a (running b l) t = (t.phase ≡ phase b.sizes true true false) × InRange b.sizes × Holds a b l (view t)
-StandsFor a (stopped b l) t = (t.phase ≡ phase b.sizes true true true) × InRange b.sizes × HoldsFull a b l (view t)
+StandsFor a idle t = t.phase ≡ Idle
+StandsFor a (based b) t = (t.phase ≡ Taking b.sizes) × InRange b.sizes × Holds a b [] (view t)
+StandsFor a (running b l) t = (t.phase ≡ Running b.sizes) × InRange b.sizes × Holds a b l (view t)
+StandsFor a (stopped b l) t = (t.phase ≡ Full b.sizes) × InRange b.sizes × HoldsFull a b l (view t)
 
 -- the reasoner is begun over this base, and has settled these so far
 pub data Holding {G : Type 0} (a : Algebra G) (b : Base G) (t : Table G) : Settled G → Type 0 where

@@ -3,7 +3,7 @@ ghost use Rattle.saturation.specs.Tables.{view};
 ghost use Rattle.reasoner.specs.Asking.{Asked, RowGraded, LeftOver};
 
 use runs::Stand;
-use saturation::Table;
+use saturation::{Phase, Table};
 use standpoint::{Refusal, Statement};
 
 #[derive(Clone, Copy)]
@@ -23,10 +23,7 @@ pub fn ask<G: Clone + Copy + Drop>(
 ) -> Result<Answer<G>, Refusal>
     ensures { Asked reasoner.now statement result }
 {
-    if !reasoner.phase.begun {
-        return Err(Refusal::NotBegun);
-    }
-    let sizes = reasoner.phase.sizes;
+    let sizes = reasoner.sizes()?;
     if !statement.fits(&sizes) {
         return Err(Refusal::DoesNotFit);
     }
@@ -40,12 +37,8 @@ pub fn ask<G: Clone + Copy + Drop>(
 fn settled_grade<G: Clone + Copy + Drop>(reasoner: &Table<'_, G>, statement: Statement) -> Option<G>
     ensures { RowGraded (view reasoner.now) statement result }
 {
-    let Some(i) = reasoner.find(statement) else {
-        return None;
-    };
-    if reasoner.rows[i].place == 0 {
-        return None;
-    }
+    let i = reasoner.find(statement)?;
+    reasoner.rows[i].place?;
     let grades: &[G] = reasoner.grades;
     Some(grades[i])
 }
@@ -54,7 +47,7 @@ fn settled_grade<G: Clone + Copy + Drop>(reasoner: &Table<'_, G>, statement: Sta
 fn without_grade<G: Clone + Copy + Drop>(reasoner: &Table<'_, G>) -> Answer<G>
     ensures { LeftOver reasoner.now result }
 {
-    if reasoner.phase.full {
+    if let Phase::Full(_) = reasoner.phase {
         return Answer::Pending;
     }
     match reasoner.stand() {

@@ -1,11 +1,11 @@
 // The calls. Each tests in a fixed order, and a refusal leaves everything as it was.
 ghost use Rattle.saturation.specs.Tables.{view, capacity, OverSame, Same};
-ghost use Rattle.reasoner.specs.Calls.{Begun, Adds, SettledSo, is_full};
+ghost use Rattle.reasoner.specs.Calls.{Begun, Adds, SettledSo};
 ghost use Rattle.std.specs.Prelude.{◌≡◌};
 ghost use Rattle.reasoner.specs.Filling.{Takes};
 
 use runs::Stand;
-use saturation::{Kept, Table};
+use saturation::{Kept, Phase, Table};
 use standpoint::{Kind, Refusal, Sizes, Statement, tautology, tautology_count};
 
 // Drops everything and starts with the tautologies of new sizes; refuses sizes out of range, then too few rows.
@@ -39,13 +39,7 @@ fn take_tautology<K: Kind>(reasoner: &mut Table<'_, K::Grade>, kind: &K, x: Stat
     ensures taken { Takes (K.Kind.algebra kind.now) x (view reasoner.old) (view reasoner.new) }
 {
     let start = kind.start();
-    let kept = Kept {
-        rule: 24,
-        first: 0,
-        second: 0,
-        third: 0,
-    };
-    let _ = reasoner.offer(kind, x, start, kept);
+    let _ = reasoner.offer(kind, x, start, Kept::TAUTOLOGY);
 }
 
 // Accepts a statement with a grade; refuses with 1, 6, 4, 5 and 7 in this order.
@@ -59,30 +53,24 @@ pub fn add<K: Kind>(
     ensures long { capacity (view reasoner.new) ≡ capacity (view reasoner.old) }
     ensures answer { Adds (K.Kind.algebra kind.now) statement grade reasoner.old reasoner.new result }
 {
-    if !reasoner.phase.begun {
-        return Err(Refusal::NotBegun);
-    }
-    if reasoner.phase.sealed {
-        return Err(Refusal::Sealed);
-    }
-    let sizes = reasoner.phase.sizes;
+    let sizes = match reasoner.phase {
+        Phase::Idle => return Err(Refusal::NotBegun),
+        Phase::Full(_) | Phase::Running(_) => return Err(Refusal::Sealed),
+        Phase::Taking(sizes) => sizes,
+    };
     if !statement.fits(&sizes) {
         return Err(Refusal::DoesNotFit);
     }
     if statement.misplaced(sizes.individuals) {
         return Err(Refusal::MisplacedIndividual);
     }
-    let kept = Kept {
-        rule: 0,
-        first: 0,
-        second: 0,
-        third: 0,
-    };
-    if reasoner.offer(kind, statement, grade, kept) {
-        Ok(())
-    } else {
-        Err(Refusal::RowsTaken)
+    if reasoner
+        .offer(kind, statement, grade, Kept::ACCEPTED)
+        .is_err()
+    {
+        return Err(Refusal::RowsTaken);
     }
+    Ok(())
 }
 
 // Seals the base and settles n statements, unless the run stands ended or full before: how many, and how it stands.
@@ -95,23 +83,13 @@ pub fn settle<K: Kind>(
     ensures long { capacity (view reasoner.new) ≡ capacity (view reasoner.old) }
     ensures answer { SettledSo (K.Kind.algebra kind.now) n reasoner.old reasoner.new result }
 {
-    if !reasoner.phase.begun {
-        return Err(Refusal::NotBegun);
-    }
-    if reasoner.phase.full {
-        return Ok((0, Stand::Full));
+    match reasoner.phase {
+        Phase::Idle => return Err(Refusal::NotBegun),
+        Phase::Full(_) => return Ok((0, Stand::Full)),
+        Phase::Taking(_) | Phase::Running(_) => {}
     }
     reasoner.seal(false);
     let (count, stand) = reasoner.settle(kind, n);
-    reasoner.seal(stands_full(stand));
+    reasoner.seal(matches!(stand, Stand::Full));
     Ok((count, stand))
-}
-
-fn stands_full(stand: Stand) -> bool
-    ensures { result ≡ is_full stand }
-{
-    match stand {
-        Stand::Full => true,
-        Stand::Open | Stand::Ended => false,
-    }
 }

@@ -11,8 +11,8 @@ use Rattle.standpoint.specs.Derivations.{Base}
 use Rattle.runs.specs.declared.Stand.{Stand}
 use Rattle.runs.specs.declared.Stand.TheVariants.{Open, Ended, Full}
 use Rattle.runs.specs.Runs as runs
-use Rattle.saturation.specs.declared.table.Phase.{Phase}
 use Rattle.saturation.specs.declared.table.Table.{Table}
+use Rattle.saturation.specs.Phases.{is_begun, is_sealed}
 use Rattle.saturation.specs.Tables.{State}
 use Rattle.saturation.specs.Saturation.{Holds, HoldsFull}
 use Rattle.saturation.proofs.Lists.{in_append_left}
@@ -28,7 +28,7 @@ use Rattle.replay.specs.Performing.{as_outcome, Performs}
 
 -- nothing was begun yet, or the reasoner holds a run over what the past accepted
 pub data Tied {G : Type 0} (a : Algebra G) (p : Past G) (t : Table G) : Type 0 where
-  not_yet : p.begins ≡ 0 → t.phase.begun ≡ false → Tied a p t
+  not_yet : p.begins ≡ 0 → is_begun t.phase ≡ false → Tied a p t
   begun : (l : runs.Settled G) → 0 < p.begins → Holding a p.base t l → length l ≡ p.settled → Tied a p t
 
 abbrev pub settled_in : {G : Type 0} {a : Algebra G} {p : Past G} {t : Table G} → Tied a p t → runs.Settled G
@@ -50,7 +50,7 @@ module _ {G : Type 0} (a : Algebra G) where
   -- a call that changes nothing
   still : {p : Past G} {s t : Table G} (old : Tied a p s) → Unchanged s t → GoesOn a old p t
   still (not_yet none asleep) same = record {
-    tied = not_yet none (ap (λ (z : Phase). z.begun) same.1 ∙ asleep);
+    tied = not_yet none (ap is_begun same.1 ∙ asleep);
     begins = omega arith;
     stays = λ e o m. (m, refl);
   }
@@ -69,16 +69,16 @@ module _ {G : Type 0} (a : Algebra G) where
   begin_on old n (Err e) made = still old made.0
 
   -- only a base that takes statements accepts one more
-  accepted_on : {b : Base G} {s t : Table G} {l : runs.Settled G} (x : Statement) (g : G) → s.phase.sealed ≡ false →
+  accepted_on : {b : Base G} {s t : Table G} {l : runs.Settled G} (x : Statement) (g : G) → is_sealed s.phase ≡ false →
       ((c : Base G) → StandsFor a (based c) s → StandsFor a (based (accepting c x g)) t) → Holding a b s l → Holding a (accepting b x g) t l × ((o : Statement × G) → In l o → ⊥)
   accepted_on {b} x g free more (taking h) = (taking (more b h), λ o m. m)
-  accepted_on x g free more (going h) = absurd (both_ways _ free (ap (λ (z : Phase). z.sealed) h.0))
-  accepted_on x g free more (standing h) = absurd (both_ways _ free (ap (λ (z : Phase). z.sealed) h.0))
+  accepted_on x g free more (going h) = absurd (both_ways _ free (ap is_sealed h.0))
+  accepted_on x g free more (standing h) = absurd (both_ways _ free (ap is_sealed h.0))
 
   add_on : {p : Past G} {s t : Table G} (old : Tied a p s) (x : Statement) (g : G) (r : Result (Unit {0}) Refusal) → Adds a x g s t r → GoesOn a old (after p (Add x g) (as_outcome (λ _. Added) r)) t
-  add_on (not_yet none asleep) x g (Ok _) made = absurd (both_ways _ asleep made.0)
+  add_on (not_yet none asleep) x g (Ok _) made = absurd (both_ways _ asleep (ap is_begun made.0.1))
   add_on (begun l some holding count) x g (Ok _) made =
-      let on = accepted_on x g made.1 made.4 holding in
+      let on = accepted_on x g (ap is_sealed made.0.1) made.1 holding in
       record {
         tied = begun l some on.0 count;
         begins = omega arith;

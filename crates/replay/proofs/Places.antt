@@ -3,6 +3,7 @@ use Rattle.std.proofs.Common.{◌≡◌, ℕ, zero, suc, ◌<◌, ◌≤◌, fal
 use Rattle.standpoint.specs.declared.step.Step.{Step}
 use Rattle.standpoint.specs.Algebra.{Algebra}
 use Rattle.saturation.specs.declared.table.Table.{Table}
+use Rattle.saturation.specs.Phases.{is_begun}
 use Rattle.saturation.specs.Tables.{view, capacity}
 use Rattle.saturation.proofs.Offers.{last_or}
 use Rattle.replay.specs.declared.call.Call.{Call}
@@ -57,7 +58,7 @@ module _ {G : Type 0} (a : Algebra G) (calls : List (Call G)) (os : List (Outcom
   rows_kept none = refl
   rows_kept (one_more so_far rows long kept here) = rows ∙ rows_kept so_far
 
-  module _ (asleep : first.phase.begun ≡ false) where
+  module _ (asleep : is_begun first.phase ≡ false) where
     -- what the calls so far tell of the reasoner
     abbrev pub tied_at : {n : ℕ} {t : Table G} {q : List (Step G)} → Performed a calls os first steps n t q → Tied a (before calls os n) t
     tied_at none = not_yet refl asleep

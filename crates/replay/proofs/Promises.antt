@@ -16,6 +16,7 @@ use Rattle.runs.specs.Runs.{Run, Stands}
 use Rattle.runs.proofs.Offers.{settled_once, settled_derives}
 use Rattle.runs.proofs.OneRun.{one_run}
 use Rattle.saturation.specs.declared.table.Table.{Table}
+use Rattle.saturation.specs.Phases.{is_begun}
 use Rattle.saturation.specs.Tables.{view, capacity}
 use Rattle.saturation.proofs.Offers.{last_or}
 use Rattle.reasoner.specs.declared.asking.Answer.{Answer}
@@ -108,7 +109,7 @@ module _ {G : Type 0} (a : Algebra G) (laws : Laws a) where
           let most_is = within.at_most in
           omega arith
 
-  module _ (calls : List (Call G)) (os : List (Outcome G)) (first : Table G) (steps : List (Step G)) (asleep : first.phase.begun ≡ false) where
+  module _ (calls : List (Call G)) (os : List (Outcome G)) (first : Table G) (steps : List (Step G)) (asleep : is_begun first.phase ≡ false) where
     module _ {n : ℕ} {t : Table G} {end : List (Step G)} (all : Performed a calls os first steps n t end) where
       spoke_at : (i : ℕ) (x : Statement) (said : Answer G) → Told a calls os n i x said → (l : runs.Settled G) × Spoke a (before calls os i) (capacity (view first)) x said l
       spoke_at i x said (below, is_call, is_o) =

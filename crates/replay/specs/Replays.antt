@@ -12,6 +12,7 @@ use Rattle.runs.specs.Runs as runs
 use Rattle.runs.specs.Runs.{Run, Stands}
 use Rattle.saturation.specs.declared.row.Row.{Row}
 use Rattle.saturation.specs.declared.table.Table.{Table}
+use Rattle.saturation.specs.Phases.{is_begun}
 use Rattle.saturation.specs.Tables.{view, fresh, capacity}
 use Rattle.reasoner.specs.declared.asking.Answer.{Answer}
 use Rattle.reasoner.specs.declared.asking.Answer.TheVariants.{Graded, Nothing}
@@ -31,7 +32,7 @@ pub record Replayed {G : Type 0} (a : Algebra G) (rows : List Row) (grades : Lis
     (rows_left : List Row) (grades_left : List G) (steps_left : List (Step G)) : Type 0 where
   pub new : Table G
   pub empty : view new ≡ fresh rows grades
-  pub not_begun : new.phase.begun ≡ false
+  pub not_begun : is_begun new.phase ≡ false
   pub last : Table G
   pub performed : Performed a calls outcomes new steps n last steps_left
   pub rows_are : rows_left ≡ last.rows.now

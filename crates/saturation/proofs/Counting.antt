@@ -8,7 +8,7 @@ use Rattle.runs.specs.Runs.{Settled, Known, Unsettled, AllSettled, StandsFull}
 use Rattle.runs.proofs.Distinct.{in_nth}
 use Rattle.saturation.specs.Tables.{State, row_at, statement_at, turn_at, OpenAt, capacity}
 use Rattle.saturation.specs.Saturation.{Holds}
-use Rattle.saturation.proofs.Offers.{below_or, equal_or, last_or}
+use Rattle.saturation.proofs.Offers.{below_or, equal_or, none_or, last_or}
 use Rattle.saturation.proofs.Lists.{Fit}
 use Rattle.saturation.proofs.Pigeons.{pigeon}
 use Rattle.saturation.proofs.Opening.{open_unsettled, open_room}
@@ -46,7 +46,7 @@ open_or s (suc n) =
     (λ found. let h = found.1 in inl (found.0, omega arith, found.2))
     (λ none. inr (λ k h o. ⊎_elim (λ lt. none k lt o) (λ e. ne (subst (OpenAt s) e o)) (last_or k n (omega arith))))
     (open_or s n))
-    (equal_or (row_at s n).place 0)
+    (none_or (row_at s n).place)
 
 module _ {G : Type 0} (al : Algebra G) (base : Base G) (l : Settled G) (s : State G) (h : Holds al base l s) where
   -- a run that the rows hold does not stand full

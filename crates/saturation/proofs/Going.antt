@@ -17,7 +17,7 @@ use Rattle.saturation.specs.Offering.{Apart}
 use Rattle.saturation.specs.Searching.{Lists}
 use Rattle.saturation.specs.Turns.{FirstOffered, TookTurn, Turned}
 use Rattle.saturation.specs.Saturation.{Holds, WentOn}
-use Rattle.saturation.proofs.Offers.{below_or, equal_or, in_same}
+use Rattle.saturation.proofs.Offers.{below_or, equal_or, none_or, in_same}
 use Rattle.saturation.proofs.Lists.{in_append_left, in_append_right, in_append_cases}
 use Rattle.saturation.proofs.Stepping.{in_getD, offers_up, offers_down, uses_offers, value_at}
 
@@ -79,7 +79,7 @@ module _ {G : Type 0} (al : Algebra G) (base : Base G) (l : Settled G) (s : Stat
       let v = value_at s.grades k (omega arith) in
       (get_or s.grades k v.0, h.sound (statement_at s k, get_or s.grades k v.0) (h.rows.from k lt un v.0)))
       (λ closed. let m = closed_settled s l h.lists k lt closed in (m.0, in_offers al base h.run (statement_at s k) m.0 m.1))
-      (equal_or (row_at s k).place 0)
+      (none_or (row_at s k).place)
 
   -- where no row is unsettled, every known statement is settled
   pub none_open : ((k : ℕ) → k < s.len → OpenAt s k → ⊥) → AllSettled al base l

@@ -7,7 +7,7 @@ use Rattle.saturation.specs.Rows.{TurnsWithin}
 use Rattle.saturation.specs.Tables.{State, row_at, statement_at, turn_at}
 use Rattle.saturation.specs.Offering.{Grown}
 use Rattle.saturation.specs.Searching.{Premise, Lists}
-use Rattle.saturation.proofs.Offers.{below_or}
+use Rattle.saturation.proofs.Offers.{below_or, not_both}
 
 pub in_append_left : {X : Type 0} (xs ys : List X) (x : X) → In xs x → In (xs ++ ys) x
 in_append_left [] ys x m = absurd m
@@ -34,7 +34,7 @@ lists_grown {G} s t l fit g is =
     let back : (k : ℕ) → k < t.settled → k < s.settled = λ k h. let e = g.settled in omega arith in
     let turn = turn_kept s t fit g in
     let whole : (k : ℕ) → k < s.settled → (row_at t (turn_at s k) ≡ row_at s (turn_at s k)) × ((d : G) → get_or t.grades (turn_at s k) d ≡ get_or s.grades (turn_at s k) d) =
-    λ k h. g.kept (turn_at s k) (fit.1 k h) (λ z. let m = is.marked k h in omega arith) in
+    λ k h. g.kept (turn_at s k) (fit.1 k h) (not_both _ k (is.marked k h)) in
     record {
       long = is.long ∙ sym g.settled;
       holds = λ k h d.

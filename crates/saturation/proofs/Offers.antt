@@ -1,7 +1,9 @@
 -- One offer: what the writes make of the rows, and that they keep the best of what was offered.
-use Rattle.std.proofs.Common.{◌≡◌, ℕ, ◌+◌, ◌<◌, ◌≤◌, Bool, true, false, cond, ◌⊎◌, List, ◌∷◌, length, get_or, sym, refl, ap, ◌∙◌, subst, inl, inr, ⊎_elim, arith, length-set, get_or-set_other, get_or-set_same}
+use Rattle.std.proofs.Common.{◌≡◌, ℕ, ◌+◌, ◌<◌, ◌≤◌, Bool, true, false, cond, ◌⊎◌, List, ◌∷◌, length, get_or, Some, None, Option, sym, refl, ap, ◌∙◌, subst, inl, inr, ⊎_elim, arith, length-set, get_or-set_other, get_or-set_same}
 use borrow.Author.Tests.{both_ways}
+use Rattle.std.proofs.lemmas.Option.{cond_some, none-some}
 use Rattle.std.proofs.lemmas.Bool.Decides.{nat_tests, eqb_tells, leb_tells}
+use Rattle.std.specs.Option.{is_some}
 use Rattle.standpoint.specs.Algebra.{Algebra, Laws}
 use Rattle.standpoint.specs.declared.statement.Statement.{Statement}
 use Rattle.saturation.specs.declared.row.Kept.{Kept}
@@ -21,6 +23,21 @@ below_or i n = ⊎_elim (λ e. inr e.1) (λ e. inl e.1) (leb_tells n i)
 
 pub equal_or : (i n : ℕ) → (i ≡ n) ⊎ (i ≡ n → ⊥)
 equal_or i n = ⊎_elim (λ t. inl t.1) (λ f. inr f.1) (eqb_tells i n)
+
+pub none_or : {X : Type 0} (p : Option X) → (p ≡ None) ⊎ (p ≡ None → ⊥)
+none_or None = inl refl
+none_or (Some x) = inr (λ e. none-some x (sym e))
+
+-- a place is settled, or none is
+pub not_both : {X : Type 0} (p : Option X) (x : X) → p ≡ Some x → p ≡ None → ⊥
+not_both p x some none = none-some x (sym none ∙ some)
+
+pub none_told : {X : Type 0} (p : Option X) → false ≡ is_some p → p ≡ None
+none_told None off = refl
+none_told (Some x) off = absurd (both_ways true (sym off) refl)
+
+pub same_some : {X : Type 0} {x y : X} → Some x ≡ Some y → x ≡ y
+same_some {x = x} {y = y} e = (cond_some true x y e).1
 
 pub in_same : {G : Type 0} (os : List (Statement × G)) (x y : Statement) (g h : G) → x ≡ y → g ≡ h → In os (x, g) → In os (y, h)
 in_same {G} os x y g h e f m = let same : ◌≡◌ {A = Statement × G} (x, g) (y, h) = cc in subst (In os) same m
@@ -80,7 +97,7 @@ module _ {G : Type 0} (s : State G) (x : Row) (g : G) (rows_in : s.len < length 
   new_grade : (d : G) → get_or (pushed s x g).grades s.len d ≡ g
   new_grade d = get_or-set_same s.grades s.len g d grades_in
 
-  pub pushed_grown : x.place ≡ 0 → Grown s (pushed s x g)
+  pub pushed_grown : x.place ≡ None → Grown s (pushed s x g)
   pushed_grown un = record {
     more = omega arith;
     settled = refl;
@@ -181,7 +198,7 @@ module _ {G : Type 0} (s : State G) (i : ℕ) (g : G) (kept : Kept) (rows_in : i
   places_left : (k : ℕ) → (row_at (improved s i g kept) k).place ≡ (row_at s k).place
   places_left = left_as (λ (r : Row). r.place) refl
 
-  pub improved_grown : (row_at s i).place ≡ 0 → Grown s (improved s i g kept)
+  pub improved_grown : (row_at s i).place ≡ None → Grown s (improved s i g kept)
   improved_grown un = record {
     more = omega arith;
     settled = refl;
@@ -199,7 +216,7 @@ module _ {G : Type 0} (s : State G) (i : ℕ) (g : G) (kept : Kept) (rows_in : i
   pub improved_apart : Apart s → Apart (improved s i g kept)
   improved_apart apart j k hj hk e = apart j k hj hk (sym (statements_left j) ∙ e ∙ statements_left k)
 
-  pub improved_best : (al : Algebra G) → Laws al → (x : Statement) → i < s.len → statement_at s i ≡ x → (row_at s i).place ≡ 0 → ((d : G) → al.no_worse (get_or s.grades i d) g ≡ false) → (offered : List (Statement × G)) → BestOf al s offered → BestOf al (improved s i g kept) ((x, g) ∷ offered)
+  pub improved_best : (al : Algebra G) → Laws al → (x : Statement) → i < s.len → statement_at s i ≡ x → (row_at s i).place ≡ None → ((d : G) → al.no_worse (get_or s.grades i d) g ≡ false) → (offered : List (Statement × G)) → BestOf al s offered → BestOf al (improved s i g kept) ((x, g) ∷ offered)
   improved_best al l x within is un worse off b =
       let t = improved s i g kept in
       let reflexive : (v : G) → al.no_worse v v ≡ true = λ v. ⊎_elim (λ e. e) (λ e. e) (l.total v v) in
@@ -241,7 +258,7 @@ module _ {G : Type 0} (s : State G) (i : ℕ) (g : G) (kept : Kept) (rows_in : i
       (equal_or j i)
 
 -- an offer that changes nothing: its row is settled, or has a grade no worse
-pub left_best : {G : Type 0} (al : Algebra G) (s : State G) (x : Statement) (g : G) (i : ℕ) → i < s.len → statement_at s i ≡ x → ((row_at s i).place ≡ 0 → (d : G) → al.no_worse (get_or s.grades i d) g ≡ true) → (offered : List (Statement × G)) → BestOf al s offered → BestOf al s ((x, g) ∷ offered)
+pub left_best : {G : Type 0} (al : Algebra G) (s : State G) (x : Statement) (g : G) (i : ℕ) → i < s.len → statement_at s i ≡ x → ((row_at s i).place ≡ None → (d : G) → al.no_worse (get_or s.grades i d) g ≡ true) → (offered : List (Statement × G)) → BestOf al s offered → BestOf al s ((x, g) ∷ offered)
 left_best {G} al s x g i within is good off b = record {
   apart = b.apart;
   every = λ y h. ⊎_elim (λ e. (i, within, is ∙ fst_is e)) (λ m. b.every y h m);
@@ -249,13 +266,13 @@ left_best {G} al s x g i within is good off b = record {
   best = λ j hj uj h m d.
       ⊎_elim
       (λ e. let same : i ≡ j = b.apart i j within hj (is ∙ fst_is e) in
-      let P : ℕ → Type 0 = λ k. (row_at s k).place ≡ 0 → al.no_worse (get_or s.grades k d) h ≡ true in
+      let P : ℕ → Type 0 = λ k. (row_at s k).place ≡ None → al.no_worse (get_or s.grades k d) h ≡ true in
       subst P same (λ u. subst (λ (v : G). al.no_worse (get_or s.grades i d) v ≡ true) (snd_is e) (good u d)) uj)
       (λ m'. b.best j hj uj h m' d)
       m;
 }
 
-pub taken_pushed : {G : Type 0} (al : Algebra G) → Laws al → (s t : State G) (r : Bool) (x : Row) (g : G) → r ≡ has_room s → t ≡ cond r (pushed s x g) s → x.place ≡ 0 → Absent s x.statement → Taken al s t x.statement g r
+pub taken_pushed : {G : Type 0} (al : Algebra G) → Laws al → (s t : State G) (r : Bool) (x : Row) (g : G) → r ≡ has_room s → t ≡ cond r (pushed s x g) s → x.place ≡ None → Absent s x.statement → Taken al s t x.statement g r
 taken_pushed {G} al l s t true x g room is un absent =
     let rows_in : s.len < length s.rows = grind (arith, nat_tests) in
     let grades_in : s.len < length s.grades = grind (arith, nat_tests) in
@@ -275,7 +292,7 @@ taken_pushed {G} al l s t false x g room is un absent =
       refused = λ _. (refl, sym room, absent);
     })
 
-pub taken_improved : {G : Type 0} (al : Algebra G) → Laws al → (s t : State G) (i : ℕ) (x : Statement) (g : G) (kept : Kept) → t ≡ improved s i g kept → i < s.len → s.len ≤ length s.rows → s.len ≤ length s.grades → statement_at s i ≡ x → (row_at s i).place ≡ 0 → ((d : G) → al.no_worse (get_or s.grades i d) g ≡ false) → Taken al s t x g true
+pub taken_improved : {G : Type 0} (al : Algebra G) → Laws al → (s t : State G) (i : ℕ) (x : Statement) (g : G) (kept : Kept) → t ≡ improved s i g kept → i < s.len → s.len ≤ length s.rows → s.len ≤ length s.grades → statement_at s i ≡ x → (row_at s i).place ≡ None → ((d : G) → al.no_worse (get_or s.grades i d) g ≡ false) → Taken al s t x g true
 taken_improved {G} al l s t i x g kept is within rows_fit grades_fit same un worse =
     let rows_in : i < length s.rows = omega arith in
     let grades_in : i < length s.grades = omega arith in
@@ -287,7 +304,7 @@ taken_improved {G} al l s t i x g kept is within rows_fit grades_fit same un wor
       refused = λ e. absurd (both_ways true e refl);
     })
 
-pub taken_left : {G : Type 0} (al : Algebra G) (s : State G) (i : ℕ) (x : Statement) (g : G) → i < s.len → statement_at s i ≡ x → ((row_at s i).place ≡ 0 → (d : G) → al.no_worse (get_or s.grades i d) g ≡ true) → Taken al s s x g true
+pub taken_left : {G : Type 0} (al : Algebra G) (s : State G) (i : ℕ) (x : Statement) (g : G) → i < s.len → statement_at s i ≡ x → ((row_at s i).place ≡ None → (d : G) → al.no_worse (get_or s.grades i d) g ≡ true) → Taken al s s x g true
 taken_left al s i x g within is good = record {
   grown = grown_refl s;
   apart = λ h. h;

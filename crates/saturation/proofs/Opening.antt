@@ -14,7 +14,7 @@ use Rattle.saturation.specs.Offering.{BestOf}
 use Rattle.saturation.specs.Searching.{Lists}
 use Rattle.saturation.specs.Choosing.{Ahead, Chosen}
 use Rattle.saturation.specs.Turns.{FirstOffered}
-use Rattle.saturation.proofs.Offers.{last_or, equal_or, in_same}
+use Rattle.saturation.proofs.Offers.{last_or, equal_or, none_or, not_both, same_some, in_same}
 use Rattle.saturation.proofs.Lists.{Fit}
 use Rattle.saturation.proofs.Stepping.{in_stands, in_getD}
 use Rattle.saturation.proofs.Pigeons.{pigeon}
@@ -37,9 +37,7 @@ module _ {G : Type 0} (s : State G) (l : List (Statement × G)) (is : Lists s l)
       let kh : k < s.settled = omega arith in
       let there : statement_at s (turn_at s k) ≡ statement_at s i = (is.holds k kh (statement_at s i, g)).0 ∙ ap (λ (v : Statement × G). v.0) (p.1.1 (statement_at s i, g)) in
       let same : turn_at s k ≡ i = b.apart (turn_at s k) i (fit.1 k kh) h there in
-      let marked : (row_at s (turn_at s k)).place ≡ k + 1 = is.marked k kh in
-      let zero_there : (row_at s (turn_at s k)).place ≡ 0 = ap (λ (j : ℕ). (row_at s j).place) same ∙ un in
-      omega arith
+      not_both _ k (is.marked k kh) (ap (λ (j : ℕ). (row_at s j).place) same ∙ un)
 
   -- a statement that is not in the list has its row unsettled
   pub unsettled_open : (i : ℕ) → i < s.len → Unsettled l (statement_at s i) → G → OpenAt s i
@@ -55,7 +53,7 @@ module _ {G : Type 0} (s : State G) (l : List (Statement × G)) (is : Lists s l)
       let stands = is.holds k b.1 d in
       let e : (get_or l k d).0 ≡ statement_at s i = sym stands.0 ∙ ap (statement_at s) b.2 in
       absurd (un (get_or l k d).1 (in_same l (get_or l k d).0 (statement_at s i) (get_or l k d).1 (get_or l k d).1 e refl (in_getD l k d (omega arith)))))
-      (equal_or (row_at s i).place 0)
+      (none_or (row_at s i).place)
 
   -- an unsettled row leaves room for one more turn
   pub open_room : Fit s → (i : ℕ) → i < s.len → OpenAt s i → s.settled < s.len
@@ -64,15 +62,9 @@ module _ {G : Type 0} (s : State G) (l : List (Statement × G)) (is : Lists s l)
       let f : ℕ → ℕ = λ k. cond (eqb k n) i (turn_at s k) in
       let top : (k : ℕ) → k ≡ n → f k ≡ i = λ k e. grind (arith, nat_tests) in
       let low : (k : ℕ) → (k ≡ n → ⊥) → f k ≡ turn_at s k = λ k e. grind (arith, nat_tests) in
-      let never : (k : ℕ) → k < n → turn_at s k ≡ i → ⊥ = λ k kh e.
-      let m : (row_at s (turn_at s k)).place ≡ k + 1 = is.marked k kh in
-      let z : (row_at s (turn_at s k)).place ≡ 0 = ap (λ (j : ℕ). (row_at s j).place) e ∙ un in
-      omega arith in
+      let never : (k : ℕ) → k < n → turn_at s k ≡ i → ⊥ = λ k kh e. not_both _ k (is.marked k kh) (ap (λ (j : ℕ). (row_at s j).place) e ∙ un) in
       let apart : (j k : ℕ) → j < n → k < n → turn_at s j ≡ turn_at s k → j ≡ k = λ j k hj hk e.
-      let mj : (row_at s (turn_at s j)).place ≡ j + 1 = is.marked j hj in
-      let mk : (row_at s (turn_at s k)).place ≡ k + 1 = is.marked k hk in
-      let same : (row_at s (turn_at s j)).place ≡ (row_at s (turn_at s k)).place = ap (λ (v : ℕ). (row_at s v).place) e in
-      omega arith in
+      same_some (sym (is.marked j hj) ∙ ap (λ (v : ℕ). (row_at s v).place) e ∙ is.marked k hk) in
       let fits : n + 1 ≤ s.len = pigeon s.len (n + 1) f
       (λ k kh. ⊎_elim
       (λ lt. let e = low k (λ x. omega arith) in let w = fit.1 k lt in omega arith)

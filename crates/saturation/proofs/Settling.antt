@@ -1,5 +1,5 @@
 -- A row is settled.
-use Rattle.std.proofs.Common.{◌≡◌, ℕ, ◌+◌, ◌<◌, ◌≤◌, List, [], ◌∷◌, ◌++◌, length, get_or, take, sym, refl, ap, ◌∙◌, subst, ⊎_elim, arith, length-append, length-set, get_or-set_other, get_or-set_same}
+use Rattle.std.proofs.Common.{◌≡◌, ℕ, ◌+◌, ◌<◌, ◌≤◌, List, [], ◌∷◌, ◌++◌, length, get_or, take, Some, None, sym, refl, ap, ◌∙◌, subst, ⊎_elim, arith, length-append, length-set, get_or-set_other, get_or-set_same}
 use lib.Seq.{take-append-le, take-append_seam}
 use Rattle.std.proofs.lemmas.List.{get_or_append_left, get_or_push}
 use Rattle.standpoint.specs.declared.statement.Statement.{Statement}
@@ -12,7 +12,7 @@ use Rattle.saturation.specs.Tables.{State, row_at, statement_at, turn_at, OpenAt
 use Rattle.saturation.specs.Places.{KeptRight}
 use Rattle.saturation.specs.Offering.{Apart, BestOf, Grown, RowsRight, Explained}
 use Rattle.saturation.specs.Searching.{Premise, Lists}
-use Rattle.saturation.proofs.Offers.{last_or, equal_or, in_same}
+use Rattle.saturation.proofs.Offers.{last_or, equal_or, not_both, in_same}
 use Rattle.saturation.proofs.Lists.{Fit, turn_kept}
 use Rattle.saturation.proofs.Stepping.{kept_up}
 
@@ -44,11 +44,11 @@ module _ {G : Type 0} (s : State G) (i : ℕ) (within : i < s.len) (rows_fit : s
 
   pub settled_statements : (j : ℕ) → statement_at (settled_row s i) j ≡ statement_at s j
   settled_statements j =
-      write_leaves (with_turn s s.settled i) i (placed (row_at (with_turn s s.settled i) i) (s.settled + 1)) second_in (λ (r : Row). r.statement) refl j
+      write_leaves (with_turn s s.settled i) i (placed (row_at (with_turn s s.settled i) i) s.settled) second_in (λ (r : Row). r.statement) refl j
       ∙ write_leaves s s.settled (turned (row_at s s.settled) i) first_in (λ (r : Row). r.statement) refl j
 
   turn_left : (j : ℕ) → turn_at (settled_row s i) j ≡ turn_at (with_turn s s.settled i) j
-  turn_left j = write_leaves (with_turn s s.settled i) i (placed (row_at (with_turn s s.settled i) i) (s.settled + 1)) second_in (λ (r : Row). r.turn) refl j
+  turn_left j = write_leaves (with_turn s s.settled i) i (placed (row_at (with_turn s s.settled i) i) s.settled) second_in (λ (r : Row). r.turn) refl j
 
   turn_old : (j : ℕ) → j < s.settled → turn_at (settled_row s i) j ≡ turn_at s j
   turn_old j h = turn_left j ∙ ap (λ (r : Row). r.turn) (write_other s s.settled (turned (row_at s s.settled) i) first_in j (λ e. omega arith))
@@ -60,10 +60,10 @@ module _ {G : Type 0} (s : State G) (i : ℕ) (within : i < s.len) (rows_fit : s
   place_mid j = write_leaves s s.settled (turned (row_at s s.settled) i) first_in (λ (r : Row). r.place) refl j
 
   place_old : (j : ℕ) → (j ≡ i → ⊥) → (row_at (settled_row s i) j).place ≡ (row_at s j).place
-  place_old j ne = ap (λ (r : Row). r.place) (write_other (with_turn s s.settled i) i (placed (row_at (with_turn s s.settled i) i) (s.settled + 1)) second_in j ne) ∙ place_mid j
+  place_old j ne = ap (λ (r : Row). r.place) (write_other (with_turn s s.settled i) i (placed (row_at (with_turn s s.settled i) i) s.settled) second_in j ne) ∙ place_mid j
 
-  place_new : (row_at (settled_row s i) i).place ≡ s.settled + 1
-  place_new = ap (λ (r : Row). r.place) (write_here (with_turn s s.settled i) i (placed (row_at (with_turn s s.settled i) i) (s.settled + 1)) second_in)
+  place_new : (row_at (settled_row s i) i).place ≡ Some s.settled
+  place_new = ap (λ (r : Row). r.place) (write_here (with_turn s s.settled i) i (placed (row_at (with_turn s s.settled i) i) s.settled) second_in)
 
   pub settled_lists : (l : List (Statement × G)) (g : G) → OpenAt s i → ((d : G) → get_or s.grades i d ≡ g) → Lists s l → Lists (settled_row s i) (l ++ (statement_at s i, g) ∷ [])
   settled_lists l g un grade is =
@@ -71,10 +71,7 @@ module _ {G : Type 0} (s : State G) (i : ℕ) (within : i < s.len) (rows_fit : s
       let t = settled_row s i in
       let n = s.settled in
       let lg = is.long in
-      let never : (k : ℕ) → k < n → turn_at s k ≡ i → ⊥ = λ k kh e.
-      let m : (row_at s (turn_at s k)).place ≡ k + 1 = is.marked k kh in
-      let z : (row_at s (turn_at s k)).place ≡ 0 = ap (λ (j : ℕ). (row_at s j).place) e ∙ un in
-      omega arith in
+      let never : (k : ℕ) → k < n → turn_at s k ≡ i → ⊥ = λ k kh e. not_both _ k (is.marked k kh) (ap (λ (j : ℕ). (row_at s j).place) e ∙ un) in
       record {
         long = length-append l (o ∷ []) ∙ ap (λ (k : ℕ). k + 1) lg;
         holds = λ k h d. ⊎_elim
@@ -95,7 +92,7 @@ module _ {G : Type 0} (s : State G) (i : ℕ) (within : i < s.len) (rows_fit : s
             (last_or k n h);
         marked = λ k h. ⊎_elim
             (λ lt. ap (λ (j : ℕ). (row_at t j).place) (turn_old k lt) ∙ place_old (turn_at s k) (never k lt) ∙ is.marked k lt)
-            (λ eq. ap (λ (j : ℕ). (row_at t j).place) (ap (turn_at t) eq ∙ turn_new) ∙ place_new ∙ ap (λ (j : ℕ). j + 1) (sym eq))
+            (λ eq. ap (λ (j : ℕ). (row_at t j).place) (ap (turn_at t) eq ∙ turn_new) ∙ place_new ∙ ap Some (sym eq))
             (last_or k n h);
         back = λ j h ne. ⊎_elim
             (λ e. (n, omega arith, turn_new ∙ sym e))
@@ -112,9 +109,9 @@ module _ {G : Type 0} (s : State G) (i : ℕ) (within : i < s.len) (rows_fit : s
   pub settled_best : (al : Algebra G) (off : List (Statement × G)) → BestOf al s off → BestOf al (settled_row s i) off
   settled_best al off b =
       let t = settled_row s i in
-      let was : (j : ℕ) → (row_at t j).place ≡ 0 → (row_at s j).place ≡ 0 = λ j z.
+      let was : (j : ℕ) → (row_at t j).place ≡ None → (row_at s j).place ≡ None = λ j z.
       ⊎_elim
-      (λ e. let p : (row_at t j).place ≡ s.settled + 1 = ap (λ (v : ℕ). (row_at t v).place) e ∙ place_new in absurd (let f : ⊥ = omega arith in f))
+      (λ e. absurd (not_both _ s.settled (ap (λ (v : ℕ). (row_at t v).place) e ∙ place_new) z))
       (λ ne. sym (place_old j ne) ∙ z)
       (equal_or j i) in
       record {
@@ -126,13 +123,13 @@ module _ {G : Type 0} (s : State G) (i : ℕ) (within : i < s.len) (rows_fit : s
 
   settled_kept : (j : ℕ) → (row_at (settled_row s i) j).kept ≡ (row_at s j).kept
   settled_kept j =
-      write_leaves (with_turn s s.settled i) i (placed (row_at (with_turn s s.settled i) i) (s.settled + 1)) second_in (λ (r : Row). r.kept) refl j
+      write_leaves (with_turn s s.settled i) i (placed (row_at (with_turn s s.settled i) i) s.settled) second_in (λ (r : Row). r.kept) refl j
       ∙ write_leaves s s.settled (turned (row_at s s.settled) i) first_in (λ (r : Row). r.kept) refl j
 
   pub settled_right : (al : Algebra G) (base : Base G) (l : List (Statement × G)) (p : Statement × G) → RowsRight al base l s → RowsRight al base (l ++ p ∷ []) (settled_row s i)
   settled_right al base l p all j h z d =
       let t = settled_row s i in
-      let ne : j ≡ i → ⊥ = λ e. let q : (row_at t j).place ≡ s.settled + 1 = ap (λ (v : ℕ). (row_at t v).place) e ∙ place_new in omega arith in
+      let ne : j ≡ i → ⊥ = λ e. not_both _ s.settled (ap (λ (v : ℕ). (row_at t v).place) e ∙ place_new) z in
       let r = kept_up l p al base (statement_at s j, get_or s.grades j d) (row_at s j).kept (all j h (sym (place_old j ne) ∙ z) d) in
       subst (λ (k : Kept). KeptRight al base (l ++ p ∷ []) (statement_at t j, get_or s.grades j d) k) (sym (settled_kept j))
       (subst (λ (x : Statement). KeptRight al base (l ++ p ∷ []) (x, get_or s.grades j d) (row_at s j).kept) (sym (settled_statements j)) r)
@@ -160,6 +157,6 @@ pub explained_grown : {G : Type 0} (al : Algebra G) (s t : State G) (base : Base
 explained_grown al s t base l fit g is old k h d =
     let lg = is.long in
     let kh : k < s.settled = omega arith in
-    let whole = g.kept (turn_at s k) (fit.1 k kh) (λ z. let m = is.marked k kh in omega arith) in
+    let whole = g.kept (turn_at s k) (fit.1 k kh) (not_both _ k (is.marked k kh)) in
     let kept : (row_at t (turn_at t k)).kept ≡ (row_at s (turn_at s k)).kept = ap (λ (j : ℕ). (row_at t j).kept) (turn_kept s t fit g k kh) ∙ ap (λ (r : Row). r.kept) whole.0 in
     subst (λ (v : Kept). KeptRight al base (take k l) (get_or l k d) v) (sym kept) (old k h d)

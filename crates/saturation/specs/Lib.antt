@@ -1,3 +1,4 @@
+pub mod Phases
 pub mod Rows
 pub mod Tables
 pub mod Places

@@ -1,5 +1,5 @@
 -- Rows alone: what a table's ghost fields say of them.
-use Rattle.std.specs.Prelude.{◌≡◌, ℕ, ◌<◌, Bool, true, false, List, slice_index_or}
+use Rattle.std.specs.Prelude.{◌≡◌, ℕ, ◌<◌, Bool, true, false, List, None, Option, slice_index_or}
 use Rattle.standpoint.specs.declared.statement.Statement.{Statement}
 use Rattle.standpoint.specs.Statements.{statement}
 use Rattle.saturation.specs.declared.row.Kept.{Kept}
@@ -8,12 +8,12 @@ use Rattle.saturation.specs.declared.row.Row.{Row}
 abbrev pub kept : ℕ → ℕ → ℕ → ℕ → Kept
 kept rule i j k = record { rule = rule; first = i; second = j; third = k }
 
-abbrev pub row : Statement → Kept → ℕ → ℕ → Bool → Row
+abbrev pub row : Statement → Kept → Option ℕ → ℕ → Bool → Row
 row x step place turn mark = record { statement = x; kept = step; place = place; turn = turn; mark = mark }
 
 -- what stands past the end of the rows
 abbrev pub no_row : Row
-no_row = row (statement 0 0 0 0 0 0) (kept 0 0 0 0) 0 0 false
+no_row = row (statement 0 0 0 0 0 0) (kept 0 0 0 0) None 0 false
 
 -- each turn so far settled a taken row
 abbrev pub TurnsWithin : List Row → ℕ → ℕ → Type 0

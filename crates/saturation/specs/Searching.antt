@@ -1,5 +1,5 @@
 -- What a search offers.
-use Rattle.std.specs.Prelude.{◌≡◌, ◌==◌, ◌&&◌, ◌||◌, cond, ℕ, ◌+◌, ◌<◌, ◌≤◌, Bool, true, false, ◌⊎◌, List, [], ◌∷◌, ◌++◌, length, slice_index_or}
+use Rattle.std.specs.Prelude.{◌≡◌, ◌==◌, ◌&&◌, ◌||◌, cond, ℕ, ◌+◌, ◌<◌, ◌≤◌, Bool, true, false, ◌⊎◌, List, [], ◌∷◌, ◌++◌, length, Some, slice_index_or}
 use Rattle.standpoint.specs.declared.statement.Statement.{Statement}
 use Rattle.standpoint.specs.Lists.{In}
 use Rattle.standpoint.specs.Algebra.{Algebra}
@@ -29,7 +29,7 @@ SettledPlaces settled (k ∷ ks) = (k < settled) × SettledPlaces settled ks
 pub record Lists {G : Type 0} (s : State G) (settled : List (Statement × G)) : Type 0 where
   pub long : length settled ≡ s.settled
   pub holds : (k : ℕ) → k < s.settled → (d : Statement × G) → Premise s k (slice_index_or settled k d)
-  pub marked : (k : ℕ) → k < s.settled → (row_at s (turn_at s k)).place ≡ k + 1
+  pub marked : (k : ℕ) → k < s.settled → (row_at s (turn_at s k)).place ≡ Some k
   pub back : (i : ℕ) → i < s.len → (OpenAt s i → ⊥) → (k : ℕ) × (k < s.settled) × (turn_at s k ≡ i)
 
 -- from s to t some list was offered: nothing that is not of May, and everything of Sure

@@ -1,10 +1,8 @@
 -- A table as a plain state, and what one write makes of it.
-use Rattle.std.specs.Prelude.{◌≡◌, ℕ, ◌+◌, ◌<◌, min, Bool, true, List, length, get_or, Some, None, Option, ◌≢◌, nat_lt, slice_index_or, slice_set}
+use Rattle.std.specs.Prelude.{◌≡◌, ℕ, ◌+◌, ◌<◌, min, Bool, List, length, get_or, Some, None, Option, ◌≢◌, nat_lt, slice_index_or, slice_set}
 use Rattle.standpoint.specs.declared.statement.Statement.{Statement}
 use Rattle.saturation.specs.declared.row.Kept.{Kept}
 use Rattle.saturation.specs.declared.row.Row.{Row}
-use Rattle.standpoint.specs.declared.sizes.Sizes.{Sizes}
-use Rattle.saturation.specs.declared.table.Phase.{Phase}
 use Rattle.saturation.specs.declared.table.Table.{Table}
 use Rattle.saturation.specs.Rows.{row, no_row}
 
@@ -21,13 +19,6 @@ view t = record { rows = t.rows.now; grades = t.grades.now; len = t.len; settled
 -- over the same memory
 abbrev pub OverSame : {G : Type 0} → Table G → Table G → Type 0
 OverSame s t = (t.rows.ghost_name ≡ s.rows.ghost_name) × (t.grades.ghost_name ≡ s.grades.ghost_name)
-
--- the sizes, whether a run is begun, its base sealed, and whether it stands full
-abbrev pub phase : Sizes → Bool → Bool → Bool → Phase
-phase n begun sealed full = record { sizes = n; begun = begun; sealed = sealed; full = full }
-
-abbrev pub sealed_phase : Phase → Bool → Phase
-sealed_phase p full = phase p.sizes p.begun true full
 
 -- over the same memory, and in the same phase
 abbrev pub Same : {G : Type 0} → Table G → Table G → Type 0
@@ -48,7 +39,7 @@ statement_at s k = (row_at s k).statement
 
 -- row k is not settled
 abbrev pub OpenAt : {G : Type 0} → State G → ℕ → Type 0
-OpenAt s k = (row_at s k).place ≡ 0
+OpenAt s k = (row_at s k).place ≡ None
 
 -- the row that was settled k-th
 abbrev pub turn_at : {G : Type 0} → State G → ℕ → ℕ
@@ -87,7 +78,7 @@ abbrev pub turned : Row → ℕ → Row
 turned r i = row r.statement r.kept r.place i r.mark
 
 abbrev pub placed : Row → ℕ → Row
-placed r p = row r.statement r.kept p r.turn r.mark
+placed r p = row r.statement r.kept (Some p) r.turn r.mark
 
 abbrev pub with_turn : {G : Type 0} → State G → ℕ → ℕ → State G
 with_turn s k i = with_row s k (turned (row_at s k) i)
@@ -100,7 +91,7 @@ one_more s = record { rows = s.rows; grades = s.grades; len = s.len; settled = s
 
 -- row i is settled in the next turn
 abbrev pub settled_row : {G : Type 0} → State G → ℕ → State G
-settled_row s i = one_more (with_place (with_turn s s.settled i) i (s.settled + 1))
+settled_row s i = one_more (with_place (with_turn s s.settled i) i s.settled)
 
 -- no row is taken
 abbrev pub fresh : {G : Type 0} → List Row → List G → State G

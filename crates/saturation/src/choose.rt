@@ -39,7 +39,8 @@ impl<'a, G: Copy> Table<'a, G> {
         requires { (i < self.now.len) × Chosen (K.Kind.algebra kind.now) (view self.now) i best }
         ensures { Chosen (K.Kind.algebra kind.now) (view self.now) (i + 1) result }
     {
-        if self.rows[i].place != 0 {
+        let place = self.rows[i].place;
+        if place.is_some() {
             return best;
         }
         let Some(at) = best else {

@@ -1,16 +1,18 @@
 //! Saturation: a table over lent memory that settles statements, best grade first.
 #![tactic(auto)]
 
+pub use phase::Phase;
 pub use places::{Places, Position};
 pub use row::{Kept, Row};
 pub use rows::NoRow;
-pub use table::{Phase, Table};
+pub use table::Table;
 pub use turn::Turn;
 
 mod attempt;
 mod choose;
 mod memory;
 mod offer;
+mod phase;
 mod places;
 mod row;
 mod rows;

@@ -1,36 +1,29 @@
 // A table over lent memory, and its phases.
-ghost use Rattle.std.specs.Prelude.{◌≡◌, true, false};
-ghost use Rattle.saturation.specs.Tables.{view, fresh, capacity, OverSame, phase, sealed_phase};
+ghost use Rattle.std.specs.Prelude.{◌≡◌, true, false, MatchResult};
+ghost use Rattle.standpoint.specs.declared.refusal.Refusal.TheVariants.{NotBegun};
+ghost use Rattle.saturation.specs.declared.phase.Phase.TheVariants.{Idle, Taking};
+ghost use Rattle.saturation.specs.Phases.{is_begun, sizes_of, sealed_phase};
+ghost use Rattle.saturation.specs.Tables.{view, fresh, capacity, OverSame};
 
+use crate::phase::Phase;
 use crate::row::Row;
 use crate::rows::MOST_ROWS;
-use crate::table::{Phase, Table};
-use standpoint::Sizes;
+use crate::table::Table;
+use standpoint::{Refusal, Sizes};
 
 impl<'a, G: Copy> Table<'a, G> {
     // A table that is not begun, over memory that may hold anything.
     pub fn make(rows: &'a mut [Row], grades: &'a mut [G]) -> Table<'a, G>
         ensures same { (result.rows.ghost_name ≡ rows.entry.ghost_name) × (result.grades.ghost_name ≡ grades.entry.ghost_name) }
         ensures state { view result ≡ fresh rows.old grades.old }
-        ensures phase { result.phase.begun ≡ false }
+        ensures phase { result.phase ≡ Idle }
     {
-        let sizes = Sizes {
-            standpoints: 0,
-            concepts: 0,
-            roles: 0,
-            individuals: 0,
-        };
         Table {
             rows,
             grades,
             len: 0,
             settled: 0,
-            phase: Phase {
-                sizes,
-                begun: false,
-                sealed: false,
-                full: false,
-            },
+            phase: Phase::Idle,
         }
     }
 
@@ -41,30 +34,39 @@ impl<'a, G: Copy> Table<'a, G> {
         self.rows.len().min(self.grades.len()).min(MOST_ROWS)
     }
 
+    // The sizes of the run; refuses with 1.
+    pub fn sizes(&self) -> Result<Sizes, Refusal>
+        ensures { MatchResult result (λ n. (is_begun self.now.phase ≡ true) × (n ≡ sizes_of self.now.phase)) (λ e. (e ≡ NotBegun) × (is_begun self.now.phase ≡ false)) }
+    {
+        match self.phase {
+            Phase::Idle => Err(Refusal::NotBegun),
+            Phase::Taking(sizes) | Phase::Running(sizes) | Phase::Full(sizes) => Ok(sizes),
+        }
+    }
+
     // Begins with new sizes and no row taken.
     pub fn restart(&mut self, sizes: Sizes)
         ensures memory { OverSame self.old self.new }
         ensures state { view self.new ≡ fresh self.old.rows.now self.old.grades.now }
-        ensures phase { self.new.phase ≡ phase sizes true false false }
+        ensures phase { self.new.phase ≡ Taking sizes }
     {
-        self.phase.begun = false;
-        self.len = 0;
         self.settled = 0;
-        self.phase = Phase {
-            sizes,
-            begun: true,
-            sealed: false,
-            full: false,
-        };
+        self.len = 0;
+        self.phase = Phase::Taking(sizes);
     }
 
-    // Seals the base; the run may stand full.
+    // Seals the base of a run that is begun; the run may stand full.
     pub fn seal(&mut self, full: bool)
         ensures memory { OverSame self.old self.new }
         ensures state { view self.new ≡ view self.old }
         ensures phase { self.new.phase ≡ sealed_phase self.old.phase full }
     {
-        self.phase.sealed = true;
-        self.phase.full = full;
+        if let Ok(sizes) = self.sizes() {
+            self.phase = if full {
+                Phase::Full(sizes)
+            } else {
+                Phase::Running(sizes)
+            };
+        }
     }
 }

@@ -26,7 +26,7 @@ impl<'a, G: Copy> Table<'a, G> {
                 Row {
                     statement,
                     kept,
-                    place: 0,
+                    place: None,
                     turn: 0,
                     mark: false,
                 },
@@ -44,7 +44,8 @@ impl<'a, G: Copy> Table<'a, G> {
         requires { i < self.now.len }
         ensures { Outdone (K.Kind.algebra kind.now) (view self.now) i grade result }
     {
-        if self.rows[i].place != 0 {
+        let place = self.rows[i].place;
+        if place.is_some() {
             return false;
         }
         let grades: &[G] = self.grades;

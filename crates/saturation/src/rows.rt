@@ -45,14 +45,7 @@ impl<'a, G: Copy> Table<'a, G> {
         ensures same { Same self.old self.new }
         ensures state { view self.new ≡ improved (view self.old) i grade kept }
     {
-        let row = self.rows[i];
-        self.rows[i] = Row {
-            statement: row.statement,
-            kept,
-            place: row.place,
-            turn: row.turn,
-            mark: row.mark,
-        };
+        self.rows[i].kept = kept;
         self.grades[i] = grade;
     }
 

@@ -2,6 +2,7 @@
 ghost use Rattle.std.specs.Prelude.{◌≡◌, ◌≤◌, if◌then◌else◌, nat_le};
 ghost use Rattle.runs.specs.declared.Stand.TheVariants.{Open, Ended};
 ghost use Rattle.saturation.specs.Tables.{view, Same, capacity};
+ghost use Rattle.saturation.specs.Phases.{sizes_of};
 ghost use Rattle.saturation.specs.Saturation.{GoesOn, Settles};
 
 use crate::table::Table;
@@ -15,7 +16,7 @@ impl<'a, G: Copy> Table<'a, G> {
         ensures same { Same self.old self.new }
         ensures long { capacity (view self.new) ≡ capacity (view self.old) }
         ensures within { result.0 ≤ n }
-        ensures run { Settles (K.Kind.algebra kind.now) self.old.phase.sizes.individuals (view self.old) (view self.new) n result.0 result.1 }
+        ensures run { Settles (K.Kind.algebra kind.now) (sizes_of self.old.phase).individuals (view self.old) (view self.new) n result.0 result.1 }
     {
         // The count of turns is part of the answer.
         for k in 0..n {
@@ -43,7 +44,7 @@ impl<'a, G: Copy> Table<'a, G> {
     fn go_on<K: Kind<Grade = G>>(&mut self, kind: &K) -> Turn
         ensures same { Same self.old self.new }
         ensures long { capacity (view self.new) ≡ capacity (view self.old) }
-        ensures run { GoesOn (K.Kind.algebra kind.now) self.old.phase.sizes.individuals (view self.old) (view self.new) result }
+        ensures run { GoesOn (K.Kind.algebra kind.now) (sizes_of self.old.phase).individuals (view self.old) (view self.new) result }
     {
         self.settle_one(kind)
     }

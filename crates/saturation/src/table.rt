@@ -1,18 +1,10 @@
 // The table over lent memory.
 ghost use Rattle.std.specs.Prelude.{◌≤◌, length};
+ghost use Rattle.saturation.specs.Phases.{is_begun};
 ghost use Rattle.saturation.specs.Rows.{TurnsWithin, Unmarked};
 
+use crate::phase::Phase;
 use crate::row::Row;
-use standpoint::Sizes;
-
-// How far a table is: its sizes, whether a run was begun, its base sealed, and whether it stands full.
-#[derive(Clone, Copy)]
-pub struct Phase {
-    pub sizes: Sizes,
-    pub begun: bool,
-    pub sealed: bool,
-    pub full: bool,
-}
 
 // Rows with a grade beside each. The taken rows are the first `len`, and never move.
 #[derive(Drop)]
@@ -27,5 +19,5 @@ pub struct Table<'a, G> {
     ghost few: { len ≤ 16777215 },
     ghost settled_fit: { settled ≤ len },
     ghost turns: { TurnsWithin rows.now settled len },
-    ghost marks: { Unmarked rows.now len phase.begun },
+    ghost marks: { Unmarked rows.now len (is_begun phase) },
 }

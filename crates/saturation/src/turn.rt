@@ -1,9 +1,9 @@
 // One turn of a run.
 ghost use Rattle.std.specs.Prelude.{◌≡◌, ◌+◌, ◌<◌};
-ghost use Rattle.saturation.specs.Tables.{view, Same, with_turn, with_place, settled_row};
+ghost use Rattle.saturation.specs.Phases.{sizes_of};
+ghost use Rattle.saturation.specs.Tables.{view, Same, settled_row};
 ghost use Rattle.saturation.specs.Turns.{Turned};
 
-use crate::row::Row;
 use crate::rows::NoRow;
 use crate::table::Table;
 use standpoint::Kind;
@@ -23,10 +23,10 @@ impl<'a, G: Copy> Table<'a, G> {
     // Settles the next statement, and offers all that follows from it.
     pub(crate) fn settle_one<K: Kind<Grade = G>>(&mut self, kind: &K) -> Turn
         ensures same { Same self.old self.new }
-        ensures state { Turned (K.Kind.algebra kind.now) self.old.phase.sizes.individuals (view self.old) (view self.new) result }
+        ensures state { Turned (K.Kind.algebra kind.now) (sizes_of self.old.phase).individuals (view self.old) (view self.new) result }
     {
         let newest = self.settled;
-        let individuals = self.phase.sizes.individuals;
+        let individuals = self.individuals();
         if newest >= self.len {
             return Turn::Nothing;
         }
@@ -40,6 +40,13 @@ impl<'a, G: Copy> Table<'a, G> {
         }
     }
 
+    // How many individuals the run speaks of; none where no run is begun.
+    fn individuals(&self) -> u16
+        ensures { result ≡ (sizes_of self.now.phase).individuals }
+    {
+        self.sizes().map_or(0, |sizes| sizes.individuals)
+    }
+
     // Row i is settled in the next turn.
     fn settle_row(&mut self, i: usize)
         requires { (i < self.old.len) × (self.old.settled < self.old.len) }
@@ -47,38 +54,8 @@ impl<'a, G: Copy> Table<'a, G> {
         ensures state { view self.new ≡ settled_row (view self.old) i }
     {
         let k = self.settled;
-        self.put_turn(k, i);
-        self.put_place(i, k + 1);
+        self.rows[k].turn = i;
+        self.rows[i].place = Some(k);
         self.settled = k + 1;
-    }
-
-    fn put_turn(&mut self, k: usize, i: usize)
-        requires { (k < self.old.len) × (i < self.old.len) }
-        ensures same { Same self.old self.new }
-        ensures state { view self.new ≡ with_turn (view self.old) k i }
-    {
-        let row = self.rows[k];
-        self.rows[k] = Row {
-            statement: row.statement,
-            kept: row.kept,
-            place: row.place,
-            turn: i,
-            mark: row.mark,
-        };
-    }
-
-    fn put_place(&mut self, i: usize, place: usize)
-        requires { i < self.old.len }
-        ensures same { Same self.old self.new }
-        ensures state { view self.new ≡ with_place (view self.old) i place }
-    {
-        let row = self.rows[i];
-        self.rows[i] = Row {
-            statement: row.statement,
-            kept: row.kept,
-            place,
-            turn: row.turn,
-            mark: row.mark,
-        };
     }
 }

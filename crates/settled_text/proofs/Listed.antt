@@ -6,10 +6,20 @@ use Rattle.std.proofs.lemmas.List.FromFn.{length-map-range_with_len, get_or-map-
 use Rattle.standpoint.specs.declared.refusal.Refusal.{Refusal}
 use Rattle.standpoint.specs.declared.statement.Statement.{Statement}
 use Rattle.runs.specs.declared.Stand.{Stand}
+use Rattle.saturation.specs.declared.phase.Phase.{Phase}
+use Rattle.saturation.specs.declared.phase.Phase.TheVariants.{Idle, Taking, Running, Full}
 use Rattle.saturation.specs.declared.table.Table.{Table}
+use Rattle.saturation.specs.Phases.{is_begun}
 use Rattle.saturation.specs.Tables.{State, view, statement_at, turn_at}
 use Rattle.saturation.specs.Searching.{Premise, premises_in, Lists}
 use Rattle.settled_text.specs.Text.{statement_text, stand_text, stand_of, line_text, Written, Printed, RowsLine, RunLine}
+
+-- a phase that is not idle is that of a run
+pub begun_else : (p : Phase) → (p ≡ Idle → ⊥) → is_begun p ≡ true
+begun_else Idle busy = absurd (busy refl)
+begun_else (Taking n) busy = refl
+begun_else (Running n) busy = refl
+begun_else (Full n) busy = refl
 
 both_same : {X Y : Type 0} (p q : X × Y) → p.0 ≡ q.0 → p.1 ≡ q.1 → p ≡ q
 both_same {X} {Y} p q first second = let pair : ◌≡◌ {A = X × Y} (p.0, p.1) (q.0, q.1) = cc in pair
@@ -66,10 +76,10 @@ module _ {G : Type 0} (coded : G → ℕ) (t : Table G) (k : ℕ) where
       get_or_past (map line_of l ++ (last_line l ∷ [])) k [] whole
 
   -- once begun, such bytes are the line of the rows and that of a run
-  pub line_printed : t.phase.begun ≡ true → (bytes : List ℕ) → LineIs bytes → (before after : List ℕ) (r : Result ℕ Refusal) → Written bytes before after r →
+  pub line_printed : is_begun t.phase ≡ true → (bytes : List ℕ) → LineIs bytes → (before after : List ℕ) (r : Result ℕ Refusal) → Written bytes before after r →
       RowsLine coded t k before after r × RunLine coded t k before after r
   line_printed begun bytes line before after r written =
-      let printed : (l : List (Statement × G)) → Reads (view t) l → Printed t.phase.begun (line_text coded l (stand_of t) k) before after r =
+      let printed : (l : List (Statement × G)) → Reads (view t) l → Printed (is_begun t.phase) (line_text coded l (stand_of t) k) before after r =
       λ l is. rw (begun, line l is) written in
       (λ d. printed _ (rows_read (view t) d), λ l lists. printed l (run_reads (view t) l lists))
 

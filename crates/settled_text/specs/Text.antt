@@ -8,6 +8,7 @@ use Rattle.standpoint.specs.declared.statement.Statement.{Statement}
 use Rattle.runs.specs.declared.Stand.{Stand}
 use Rattle.runs.specs.declared.Stand.TheVariants.{Open, Ended, Full}
 use Rattle.saturation.specs.declared.table.Table.{Table}
+use Rattle.saturation.specs.Phases.{is_begun, stands_full}
 use Rattle.saturation.specs.Tables.{view}
 use Rattle.saturation.specs.Searching.{premises_in, Lists}
 use Rattle.blockfile.specs.declared.fault.FaultReport.{FaultReport}
@@ -46,7 +47,7 @@ line_text coded settled stand k = slice_index_or (all_lines coded settled stand)
 
 -- how a table stands
 abbrev pub stand_of : {G : Type 0} → Table G → Stand
-stand_of t = cond t.phase.full Full (cond (nat_le t.len t.settled) Ended Open)
+stand_of t = cond (stands_full t.phase) Full (cond (nat_le t.len t.settled) Ended Open)
 
 -- bytes are written to the front of a buffer, or it is too short and stays as it was
 abbrev pub Written : List ℕ → List ℕ → List ℕ → Result ℕ Refusal → Type 0
@@ -61,9 +62,9 @@ Printed true bytes before after r = Written bytes before after r
 -- line k of what the rows hold as settled; d stands past the end of the grades
 abbrev pub RowsLine : {G : Type 0} → (G → ℕ) → Table G → ℕ → List ℕ → List ℕ → Result ℕ Refusal → Type 0
 RowsLine {G} coded t k before after r =
-    (d : G) → Printed t.phase.begun (line_text coded (premises_in (view t) d (range_with_len 0 t.settled)) (stand_of t) k) before after r
+    (d : G) → Printed (is_begun t.phase) (line_text coded (premises_in (view t) d (range_with_len 0 t.settled)) (stand_of t) k) before after r
 
 -- line k of the list that a run settled, where the rows hold it
 abbrev pub RunLine : {G : Type 0} → (G → ℕ) → Table G → ℕ → List ℕ → List ℕ → Result ℕ Refusal → Type 0
 RunLine {G} coded t k before after r =
-    (settled : List (Statement × G)) → Lists (view t) settled → Printed t.phase.begun (line_text coded settled (stand_of t) k) before after r
+    (settled : List (Statement × G)) → Lists (view t) settled → Printed (is_begun t.phase) (line_text coded settled (stand_of t) k) before after r

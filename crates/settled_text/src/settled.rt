@@ -5,7 +5,7 @@ ghost use Rattle.settled_text.specs.Text.{statement_text, stand_word, stand_text
 use crate::line::Line;
 use blockfile::StoredKind;
 use runs::Stand;
-use saturation::Table;
+use saturation::{Phase, Table};
 use standpoint::{Refusal, Statement};
 
 // Writes line k of the text, from 0, and answers its length with the line feed, 0 past the last; refuses before begin, and then a buffer that is too short.
@@ -18,7 +18,7 @@ pub fn settled_line<K: StoredKind>(
     ensures run { RunLine K.StoredKind.coded reasoner.now k buffer.old buffer.new result }
     ensures within { IfOk result (λ n. n ≤ length buffer.old) }
 {
-    if !reasoner.phase.begun {
+    if let Phase::Idle = reasoner.phase {
         return Err(Refusal::NotBegun);
     }
     if let Some((statement, grade)) = reasoner.settled_at(k) {
@@ -58,10 +58,9 @@ fn stand_line(stand: Stand, count: u32, buffer: &mut [u8]) -> Result<usize, Refu
 fn stand_of<G: Copy>(reasoner: &Table<'_, G>) -> Stand
     ensures { result ≡ stand_of reasoner.now }
 {
-    if reasoner.phase.full {
-        Stand::Full
-    } else {
-        reasoner.stand()
+    match reasoner.phase {
+        Phase::Full(_) => Stand::Full,
+        _ => reasoner.stand(),
     }
 }
 

@@ -1,5 +1,5 @@
 use Rattle.std.proofs.Common.{refl, ap, ◌∙◌, inl, inr, arith}
-use Rattle.saturation.specs.declared.table.Phase.{Phase}
+use Rattle.saturation.specs.Phases.{is_begun}
 use Rattle.saturation.specs.Tables.{view}
 use Rattle.saturation.proofs.Sameness.{same_then}
 use Rattle.explanation.proofs.Marking.{place_within, adds_three}
@@ -14,7 +14,7 @@ mark_place-requires-2 g c =
     let h = place_within (view c.args.reasoner.now) c.args.k c.kept_step-kept.result.second c.args.reasoner.now.settled c.kept_step-kept.result c.kept_step-kept.ensures c.requires.2 c.requires.0 (inr (inl refl)) in
     let one = c.mark_place.ensures in
     let e = one.state.but_marks.settled in
-    (omega arith, ap (λ (p : Phase). p.begun) one.same.2 ∙ c.requires.1)
+    (omega arith, ap is_begun one.same.2 ∙ c.requires.1)
 
 pub mark_place-requires-3 : goal.mark_place-requires-3
 mark_place-requires-3 g c =
@@ -23,7 +23,7 @@ mark_place-requires-3 g c =
     let two = c.mark_place-2.ensures in
     let e = one.state.but_marks.settled in
     let f = two.state.but_marks.settled in
-    (omega arith, ap (λ (p : Phase). p.begun) (two.same.2 ∙ one.same.2) ∙ c.requires.1)
+    (omega arith, ap is_begun (two.same.2 ∙ one.same.2) ∙ c.requires.1)
 
 pub returns : goal.returns
 returns g c =

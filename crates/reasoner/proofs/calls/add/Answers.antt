@@ -1,72 +1,50 @@
-use Rattle.std.proofs.Common.{◌≡◌, ℕ, Err, refl, ap, ◌∙◌, subst, arith, rules}
+use Rattle.std.proofs.Common.{◌≡◌, ℕ, true, Err, refl, sym, ap, ◌∙◌, subst, ⊎_elim, arith}
 use Rattle.standpoint.specs.declared.sizes.Sizes.{Sizes}
 use Rattle.standpoint.specs.declared.refusal.Refusal.TheVariants.{RowsTaken}
 use Rattle.standpoint.specs.Refusals.{number_of}
 use Rattle.standpoint.specs.Statements.{Fits}
-use Rattle.saturation.specs.declared.table.Phase.{Phase}
-use Rattle.saturation.specs.Tables.{view, capacity}
-use Rattle.saturation.proofs.Lasting.{same_capacity}
+use Rattle.saturation.specs.Phases.{is_begun, is_sealed, sizes_of}
+use Rattle.saturation.specs.Tables.{view}
+use Rattle.saturation.specs.Offering.{Taken}
 use Rattle.reasoner.specs.Calls.{Adds, before_begin, after_settle, misfit, individual, no_row}
 use Rattle.reasoner.proofs.Adding.{accepted_more, taken_all}
 use Rattle.reasoner.proofs.calls.add.Goals as goal
 
-pub returns-then-not-reasoner : goal.returns-then-not-reasoner
-returns-then-not-reasoner g c = record {
-  memory = search rules;
-  long = refl;
-  answer = ((refl, refl), before_begin c.if-not-reasoner.true, λ b h e. let n : ◌≡◌ {A = ℕ} 1 7 = ap number_of e in absurd (let z : ⊥ = omega arith in z));
-}
+pub returns-in-Idle-clause-answer : goal.returns-in-Idle-clause-answer
+returns-in-Idle-clause-answer g c = ((refl, refl), before_begin (ap is_begun c.in-Idle.is), λ b h e. let n : ◌≡◌ {A = ℕ} 1 7 = ap number_of e in absurd (let z : ⊥ = omega arith in z))
 
-pub returns-then-reasoner : goal.returns-then-reasoner
-returns-then-reasoner g c = record {
-  memory = search rules;
-  long = refl;
-  answer = ((refl, refl), after_settle c.if-not-reasoner.false c.if-reasoner.true, λ b h e. let n : ◌≡◌ {A = ℕ} 6 7 = ap number_of e in absurd (let z : ⊥ = omega arith in z));
-}
+pub returns-in-Full-clause-answer : goal.returns-in-Full-clause-answer
+returns-in-Full-clause-answer g c =
+    let sealed : is_sealed c.args.reasoner.now.phase ≡ true = ⊎_elim (λ h. ap is_sealed h.1) (λ h. ap is_sealed h.1) c.in-Full.is in
+    ((refl, refl), after_settle sealed, λ b h e. let n : ◌≡◌ {A = ℕ} 6 7 = ap number_of e in absurd (let z : ⊥ = omega arith in z))
 
-pub returns-then-not-fits : goal.returns-then-not-fits
-returns-then-not-fits g c = record {
-  memory = search rules;
-  long = refl;
-  answer = ((refl, refl), misfit c.if-not-reasoner.false c.if-reasoner.false c.if-not-fits.ensures, λ b h e. let n : ◌≡◌ {A = ℕ} 4 7 = ap number_of e in absurd (let z : ⊥ = omega arith in z));
-}
+pub returns-then-not-fits-clause-answer : goal.returns-then-not-fits-clause-answer
+returns-then-not-fits-clause-answer g c = ((refl, refl), misfit c.in-Taking.is c.if-not-fits.ensures, λ b h e. let n : ◌≡◌ {A = ℕ} 4 7 = ap number_of e in absurd (let z : ⊥ = omega arith in z))
 
-pub returns-then-misplaced : goal.returns-then-misplaced
-returns-then-misplaced g c = record {
-  memory = search rules;
-  long = refl;
-  answer = ((refl, refl), individual c.if-not-reasoner.false c.if-reasoner.false c.if-not-fits.ensures c.if-misplaced.ensures, λ b h e. let n : ◌≡◌ {A = ℕ} 5 7 = ap number_of e in absurd (let z : ⊥ = omega arith in z));
-}
+pub returns-then-misplaced-clause-answer : goal.returns-then-misplaced-clause-answer
+returns-then-misplaced-clause-answer g c =
+    ((refl, refl), individual c.in-Taking.is c.if-not-fits.ensures c.if-misplaced.ensures, λ b h e. let n : ◌≡◌ {A = ℕ} 5 7 = ap number_of e in absurd (let z : ⊥ = omega arith in z))
 
-pub returns-then-offer : goal.returns-then-offer
-returns-then-offer g c =
+pub returns-clause-answer : goal.returns-clause-answer
+returns-clause-answer g c =
     let al = g.K.Kind.algebra c.args.kind.now in
     let s = c.args.reasoner.now in
-    let same = c.offer.ensures.same in
-    let x = c.args.statement in
-    record {
-      memory = (same.0, same.1);
-      long = same_capacity (view s) (view c.offer.new.self) c.if-offer.ensures.state.grown.rows_long c.if-offer.ensures.state.grown.grades_long;
-      answer = (
-        c.if-not-reasoner.false,
-        c.if-reasoner.false,
-        c.if-not-fits.ensures,
-        c.if-misplaced.ensures,
-        λ b h.
-            let fits = subst (λ (n : Sizes). Fits n x) (ap (λ (p : Phase). p.sizes) h.0) c.if-not-fits.ensures in
-            (same.2 ∙ h.0, h.1, accepted_more al b x c.args.grade (view s) (view c.offer.new.self) h.2 (s.settled_fit, s.turns) fits c.if-offer.ensures.state c.offer.ensures.keeps),
-      );
-    }
+    let x = c.args.statement in (
+      (c.in-Taking.sizes, c.in-Taking.is, c.if-not-fits.ensures, c.if-misplaced.ensures),
+      λ b h.
+          let taken = subst (Taken al (view s) (view c.offer.new.self) x c.args.grade) c.if-is_err.ensures.negation c.offer.ensures.state in
+          let fits = subst (λ (n : Sizes). Fits n x) (sym (ap sizes_of c.in-Taking.is) ∙ ap sizes_of h.0) c.if-not-fits.ensures in
+          (c.offer.ensures.same.2 ∙ h.0, h.1, accepted_more al b x c.args.grade (view s) (view c.offer.new.self) h.2 (s.settled_fit, s.turns) fits taken c.offer.ensures.keeps),
+    )
 
-pub returns-else-offer : goal.returns-else-offer
-returns-else-offer g c =
+pub returns-then-is_err-clause-answer : goal.returns-then-is_err-clause-answer
+returns-then-is_err-clause-answer g c =
     let al = g.K.Kind.algebra c.args.kind.now in
     let s = c.args.reasoner.now in
-    let same = c.offer.ensures.same in
-    let none = c.if-offer.ensures.state.refused refl in
+    let none = c.offer.ensures.state.refused c.if-is_err.ensures.negation in
     let refused : Adds al c.args.statement c.args.grade s c.offer.new.self (Err RowsTaken) = (
-      (none.0, same.2),
-      no_row c.if-not-reasoner.false c.if-reasoner.false c.if-not-fits.ensures c.if-misplaced.ensures none.1 none.2,
+      (none.0, c.offer.ensures.same.2),
+      no_row c.in-Taking.is c.if-not-fits.ensures c.if-misplaced.ensures none.1 none.2,
       λ b h e. taken_all al b c.args.statement c.args.grade (view s) h.2 s.grades_fit none.1 none.2,
     ) in
-    record { memory = (same.0, same.1); long = ap capacity none.0; answer = refused }
+    refused

@@ -1,4 +1,4 @@
-use Rattle.std.proofs.Common.{subst}
+use Rattle.std.proofs.Common.{is_ok, subst}
 use Rattle.saturation.specs.Tables.{view}
 use Rattle.saturation.specs.Rows.{kept}
 use Rattle.saturation.specs.Offering.{Taken, Keeps}
@@ -13,10 +13,10 @@ returns g c =
     let t = view c.offer.new.self in
     let x = c.args.x in
     let is = c.start-start.ensures in
-    let taken = subst (λ (v : g.row.K-Grade.Denot). Taken al s t x v c.offer.result) is c.offer.ensures.state in
+    let taken = subst (λ (v : g.row.K-Grade.Denot). Taken al s t x v (is_ok c.offer.result)) is c.offer.ensures.state in
     let keeps = subst (λ (v : g.row.K-Grade.Denot). Keeps al s t x v (kept 24 0 0 0)) is c.offer.ensures.keeps in
     record {
       same = c.offer.ensures.same;
       long = same_capacity s t taken.grown.rows_long taken.grown.grades_long;
-      taken = λ n k at room f. filled_more al n s k f t x c.offer.result at room taken keeps;
+      taken = λ n k at room f. filled_more al n s k f t x (is_ok c.offer.result) at room taken keeps;
     }

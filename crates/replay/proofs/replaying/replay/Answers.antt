@@ -1,4 +1,5 @@
 use Rattle.std.proofs.Common.{ℕ, ap, subst, rules}
+use Rattle.saturation.specs.Phases.{is_begun}
 use Rattle.saturation.specs.Tables.{capacity}
 use Rattle.replay.specs.Replays.{NothingIsExact}
 use Rattle.replay.proofs.Promises.{grades_are_best, contradiction_excludes, nothing_is_exact, explanations_pass, grades_are_explained}
@@ -12,7 +13,7 @@ returns g c =
     let outcomes = c.perform_all.new.outcomes in
     let new = c.make-reasoner.result in
     let steps = c.args.steps.now in
-    let asleep = c.make-reasoner.ensures.phase in
+    let asleep = ap is_begun c.make-reasoner.ensures.phase in
     let done = c.perform_all.ensures.done in
     record {
       count = c.perform_all.ensures.count;

@@ -1,4 +1,5 @@
 use Rattle.std.proofs.Common.{ℕ, sym, subst}
+use Rattle.saturation.specs.Phases.{sizes_of}
 use Rattle.saturation.specs.Tables.{view}
 use Rattle.saturation.specs.Turns.{Turned}
 use Rattle.saturation.proofs.Going.{went_on}
@@ -12,7 +13,7 @@ returns g c =
     let u = view c.settle_one.new.self in
     record {
       same = c.settle_one.ensures.same;
-      long = turned_long al t.phase.sizes.individuals (view t) u c.settle_one.result c.settle_one.ensures.state;
+      long = turned_long al (sizes_of t.phase).individuals (view t) u c.settle_one.result c.settle_one.ensures.state;
       run = λ base e settled h.
           went_on al base settled (view t) h u t.grades_fit c.settle_one.result
           (subst (λ (n : ℕ). Turned al n (view t) u c.settle_one.result) (sym e) c.settle_one.ensures.state);

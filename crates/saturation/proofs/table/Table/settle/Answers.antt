@@ -1,5 +1,6 @@
 use Rattle.std.proofs.Common.{◌≡◌, ℕ, refl, ◌∙◌, subst, arith}
-use Rattle.saturation.specs.declared.table.Phase.{Phase}
+use Rattle.saturation.specs.Phases.{sizes_of}
+use Rattle.saturation.specs.declared.phase.Phase.{Phase}
 use Rattle.saturation.specs.declared.turn.Turn.TheVariants as turn
 use Rattle.saturation.specs.Tables.{view}
 use Rattle.saturation.specs.Saturation.{GoesOn}
@@ -8,18 +9,18 @@ use Rattle.saturation.proofs.Lasting.{SoFar, fits_capacity, so_far_none, so_far_
 use Rattle.saturation.proofs.table.Table.settle.Goals as goal
 
 pub loop-k-init : goal.loop-k-init
-loop-k-init g c = ((refl, refl, refl), refl, so_far_none (g.K.Kind.algebra c.args.kind.now) c.args.self.now.phase.sizes.individuals (view c.args.self.now))
+loop-k-init g c = ((refl, refl, refl), refl, so_far_none (g.K.Kind.algebra c.args.kind.now) (sizes_of c.args.self.now.phase).individuals (view c.args.self.now))
 
 pub returns-in-Nothing : goal.returns-in-Nothing
 returns-in-Nothing g c =
     let al = g.K.Kind.algebra c.args.kind.now in
     let s = c.args.self.now in
-    let v = s.phase.sizes.individuals in
+    let v : ℕ = (sizes_of s.phase).individuals in
     let t = c.loop-k.self in
     let inv = c.loop-k.invariant in
     let fits = fits_capacity (view t) t.rows_fit t.grades_fit t.few in
     let u = c.go_on.new.self in
-    let on = subst (λ (p : Phase). GoesOn al p.sizes.individuals (view t) (view u) turn.Nothing) inv.0.2 c.in-Nothing.ensures.run in
+    let on = subst (λ (p : Phase). GoesOn al (sizes_of p).individuals (view t) (view u) turn.Nothing) inv.0.2 c.in-Nothing.ensures.run in
     record {
       same = same_then inv.0 c.go_on.ensures.same;
       long = c.go_on.ensures.long ∙ inv.1;
@@ -31,12 +32,12 @@ pub returns-in-Overflowed : goal.returns-in-Overflowed
 returns-in-Overflowed g c =
     let al = g.K.Kind.algebra c.args.kind.now in
     let s = c.args.self.now in
-    let v = s.phase.sizes.individuals in
+    let v : ℕ = (sizes_of s.phase).individuals in
     let t = c.loop-k.self in
     let inv = c.loop-k.invariant in
     let fits = fits_capacity (view t) t.rows_fit t.grades_fit t.few in
     let u = c.go_on.new.self in
-    let on = subst (λ (p : Phase). GoesOn al p.sizes.individuals (view t) (view u) turn.Overflowed) inv.0.2 c.in-Overflowed.ensures.run in
+    let on = subst (λ (p : Phase). GoesOn al (sizes_of p).individuals (view t) (view u) turn.Overflowed) inv.0.2 c.in-Overflowed.ensures.run in
     record {
       same = same_then inv.0 c.go_on.ensures.same;
       long = c.go_on.ensures.long ∙ inv.1;
@@ -48,19 +49,19 @@ pub loop-k-preserved : goal.loop-k-preserved
 loop-k-preserved g c =
     let al = g.K.Kind.algebra c.args.kind.now in
     let s = c.args.self.now in
-    let v = s.phase.sizes.individuals in
+    let v : ℕ = (sizes_of s.phase).individuals in
     let t = c.loop-k.self in
     let inv = c.loop-k.invariant in
     let fits = fits_capacity (view t) t.rows_fit t.grades_fit t.few in
     let u = c.go_on.new.self in
-    let on = subst (λ (p : Phase). GoesOn al p.sizes.individuals (view t) (view u) turn.Settled) inv.0.2 c.in-Settled.ensures.run in
+    let on = subst (λ (p : Phase). GoesOn al (sizes_of p).individuals (view t) (view u) turn.Settled) inv.0.2 c.in-Settled.ensures.run in
     (same_then inv.0 c.go_on.ensures.same, c.go_on.ensures.long ∙ inv.1, so_far_more al v (view s) (view t) (view u) c.loop-k.k inv.2 inv.1 fits on)
 
 pub returns : goal.returns
 returns g c =
     let al = g.K.Kind.algebra c.args.kind.now in
     let s = c.args.self.now in
-    let v = s.phase.sizes.individuals in
+    let v : ℕ = (sizes_of s.phase).individuals in
     let t = c.loop-k.self in
     let inv = c.loop-k.invariant in
     let fits = fits_capacity (view t) t.rows_fit t.grades_fit t.few in

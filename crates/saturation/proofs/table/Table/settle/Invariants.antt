@@ -1,4 +1,5 @@
 use Rattle.std.proofs.Common.{◌≡◌}
+use Rattle.saturation.specs.Phases.{sizes_of}
 use Rattle.saturation.specs.Tables.{view, Same, capacity}
 use Rattle.saturation.proofs.Lasting.{SoFar}
 use Rattle.saturation.proofs.table.Table.settle.Given as goal
@@ -8,4 +9,4 @@ abbrev pub invariant-loop-k : goal.invariant-loop-k
 invariant-loop-k g l =
     Same l.initial.self l.self
     × (capacity (view l.self) ≡ capacity (view l.initial.self))
-    × SoFar (g.K.Kind.algebra l.kind) l.initial.self.phase.sizes.individuals (view l.initial.self) (view l.self) l.k
+    × SoFar (g.K.Kind.algebra l.kind) (sizes_of l.initial.self.phase).individuals (view l.initial.self) (view l.self) l.k

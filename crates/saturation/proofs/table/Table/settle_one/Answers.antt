@@ -1,5 +1,7 @@
-use Rattle.std.proofs.Common.{true, false, refl, rules}
+use Rattle.std.proofs.Common.{ℕ, true, false, refl, subst, rules}
+use Rattle.saturation.specs.declared.turn.Turn.TheVariants.{Settled, Overflowed}
 use Rattle.saturation.specs.Tables.{view}
+use Rattle.saturation.specs.Turns.{Turned}
 use Rattle.saturation.proofs.Sameness.{same_then}
 use Rattle.saturation.proofs.Taking.{took_turn, turns_out}
 use Rattle.saturation.proofs.table.Table.settle_one.Goals as goal
@@ -16,7 +18,9 @@ returns-in-Ok g c =
     let m = c.settle_row.new.self in
     record {
       same = same_then c.settle_row.ensures.same c.search.ensures.same;
-      state = took_turn (g.K.Kind.algebra k) (g.met.K.Kind.lawful k) t.phase.sizes.individuals (view t) (view m) (view c.search.new.self) c.in-Some.i true (t.settled_fit, t.turns) (m.settled_fit, m.turns) t.rows_fit t.grades_fit c.if-newest-self.false c.in-Some.ensures c.settle_row.ensures.state c.in-Ok.ensures.state;
+      state =
+          subst (λ (n : ℕ). Turned (g.K.Kind.algebra k) n (view t) (view c.search.new.self) Settled) c.individuals-individuals.ensures
+          (took_turn (g.K.Kind.algebra k) (g.met.K.Kind.lawful k) c.individuals-individuals.result (view t) (view m) (view c.search.new.self) c.in-Some.i true (t.settled_fit, t.turns) (m.settled_fit, m.turns) t.rows_fit t.grades_fit c.if-newest-self.false c.in-Some.ensures c.settle_row.ensures.state c.in-Ok.ensures.state);
     }
 
 pub returns-in-Err : goal.returns-in-Err
@@ -26,5 +30,7 @@ returns-in-Err g c =
     let m = c.settle_row.new.self in
     record {
       same = same_then c.settle_row.ensures.same c.search.ensures.same;
-      state = took_turn (g.K.Kind.algebra k) (g.met.K.Kind.lawful k) t.phase.sizes.individuals (view t) (view m) (view c.search.new.self) c.in-Some.i false (t.settled_fit, t.turns) (m.settled_fit, m.turns) t.rows_fit t.grades_fit c.if-newest-self.false c.in-Some.ensures c.settle_row.ensures.state c.in-Err.ensures.state;
+      state =
+          subst (λ (n : ℕ). Turned (g.K.Kind.algebra k) n (view t) (view c.search.new.self) Overflowed) c.individuals-individuals.ensures
+          (took_turn (g.K.Kind.algebra k) (g.met.K.Kind.lawful k) c.individuals-individuals.result (view t) (view m) (view c.search.new.self) c.in-Some.i false (t.settled_fit, t.turns) (m.settled_fit, m.turns) t.rows_fit t.grades_fit c.if-newest-self.false c.in-Some.ensures c.settle_row.ensures.state c.in-Err.ensures.state);
     }
