@@ -1,4 +1,4 @@
 mod Accepting
-mod Parts
+mod Chunks
 mod Unsound
 mod Weights
