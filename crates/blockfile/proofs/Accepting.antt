@@ -13,7 +13,6 @@ use Rattle.blockfile.specs.declared.fault.RecordFault.{RecordFault}
 use Rattle.blockfile.specs.declared.fault.RecordFault.TheVariants.{Add}
 use Rattle.blockfile.specs.declared.fault.BlockFault.{BlockFault}
 use Rattle.blockfile.specs.declared.fault.BlockFault.TheVariants.{Sum, Layout, Begin, InRecord}
-use Rattle.blockfile.specs.declared.fault.LoadFault.{LoadFault}
 use Rattle.blockfile.specs.declared.fault.LoadFault.TheVariants.{InBlock}
 use Rattle.blockfile.specs.Codes.{or_no_grade}
 use Rattle.blockfile.specs.Layout.{block_of, count_in, code_of, statement_in, sizes_in, SoundBlock, SoundBelow, Whole}
@@ -103,10 +102,6 @@ module _ {G : Type 0} where
           },
         )
 
-    -- the block answers the fault of the record
-    pub block_stopped : (b : ℕ) (t : Table G) (r : Result (Unit {0}) BlockFault) (y : BlockFault) (f : RecordFault) → r ≡ Err y → y ≡ InRecord f → (block_at f ≡ b) × StoppedAt al decoded file t f → BlockLoaded al decoded file b t r
-    block_stopped b t r y f is same h = rw (is, same) h
-
     module _ (letter n : ℕ) (sound : Whole file n × SoundBelow letter file n) (s t : Table G) where
       pub sizes_stop : (f : BlockFault) → Sized al file s t (Err f) → Loaded al letter decoded file s t (Err (InBlock f))
       sizes_stop (Sum block) h = absurd h
@@ -119,7 +114,3 @@ module _ {G : Type 0} where
       block_stops b (Layout block) lt h = absurd h
       block_stops b (Begin why) lt h = absurd h
       block_stops b (InRecord f) lt h = (n, sound, subst (λ k. k < n) (sym h.0) lt, h.1)
-
-    -- the load that stops with a fault answers it
-    pub stops_with : (letter : ℕ) (s t : Table G) (r : Result (Unit {0}) LoadFault) (y f : LoadFault) → r ≡ Err y → y ≡ f → Loaded al letter decoded file s t (Err f) → Loaded al letter decoded file s t r
-    stops_with letter s t r y f is same h = rw (is, same) h

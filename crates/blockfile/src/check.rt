@@ -17,17 +17,17 @@ pub fn check_file<K: StoredKind>(file: &[u8]) -> Result<Sizes, LoadFault>
     ensures fault { FileChecked K.StoredKind.KIND_BYTE file.now result }
     ensures sound { Tells (is_ok result) (Sound K.StoredKind.KIND_BYTE file.now) }
 {
-    check_blocks(file, K::KIND_BYTE)?;
+    check_blocks::<K>(file)?;
     Ok(check_sizes(file)?)
 }
 
 // Checks each block in order and answers how many there are.
-pub(crate) fn check_blocks(file: &[u8], kind_byte: u8) -> Result<u16, LoadFault>
-    ensures { BlocksChecked kind_byte file.now result }
+pub(crate) fn check_blocks<K: StoredKind>(file: &[u8]) -> Result<u16, LoadFault>
+    ensures { BlocksChecked K.StoredKind.KIND_BYTE file.now result }
 {
     let count = count_blocks(file)?;
     for number in 0..count {
-        check_block(Block { file, number }, kind_byte)?;
+        check_block(Block { file, number }, K::KIND_BYTE)?;
     }
     Ok(count)
 }

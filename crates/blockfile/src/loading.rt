@@ -20,7 +20,7 @@ pub fn load<K: StoredKind>(
     ensures memory { OverSame reasoner.old reasoner.new }
     ensures answer { Loaded (K.Kind.algebra kind.now) K.StoredKind.KIND_BYTE K.StoredKind.decoded file.now reasoner.old reasoner.new result }
 {
-    let blocks = check_blocks(file, K::KIND_BYTE)?;
+    let blocks = check_blocks::<K>(file)?;
     begin_sized(reasoner, kind, file)?;
     for number in 1..blocks {
         load_block(reasoner, kind, Block { file, number })?;

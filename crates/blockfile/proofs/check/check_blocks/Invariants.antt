@@ -3,4 +3,4 @@ use Rattle.blockfile.proofs.check.check_blocks.Given as goal
 
 -- every block before this one is sound
 abbrev pub invariant-loop-number : goal.invariant-loop-number
-invariant-loop-number l = SoundBelow l.kind_byte l.file l.number
+invariant-loop-number g l = SoundBelow g.K.StoredKind.KIND_BYTE l.file l.number
