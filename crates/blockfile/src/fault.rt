@@ -44,6 +44,7 @@ pub enum LoadFault {
     InBlock(BlockFault),
 }
 
+// Both conversions are by hand, since contracts say what `?` makes of a fault.
 impl From<RecordFault> for BlockFault {
     ghost from_gives = { λ f r. r ≡ InRecord f };
 
