@@ -92,6 +92,7 @@ impl StoredKind for Letter {
     }
 }
 
+// Beside tallies an impl of its own: each kind names its grade's type, and the ranges of the values differ.
 impl StoredKind for Odds {
     const KIND_BYTE: u8 = b'O';
 
