@@ -1,5 +1,5 @@
 -- The steps of a load.
-use Rattle.std.proofs.Common.{◌≡◌, ℕ, zero, suc, ◌+◌, ◌*◌, ◌<◌, ◌≤◌, false, List, [], ◌∷◌, ◌++◌, get_or, drop, Some, None, Ok, Err, Option, Result, sym, refl, ap, ◌∙◌, subst, arith}
+use Rattle.std.proofs.Common.{◌≡◌, ℕ, zero, suc, ◌+◌, ◌*◌, ◌<◌, ◌≤◌, false, List, [], ◌∷◌, ◌++◌, get_or, drop, Some, None, Ok, Err, IsErrAnd, MatchResult, Option, Result, sym, refl, ap, ◌∙◌, subst, arith}
 use Rattle.std.proofs.lemmas.List.{get_or-take, get_or-drop}
 use Rattle.standpoint.specs.declared.refusal.Refusal.{Refusal}
 use Rattle.standpoint.specs.declared.statement.Statement.{Statement}
@@ -13,7 +13,6 @@ use Rattle.blockfile.specs.declared.fault.RecordFault.{RecordFault}
 use Rattle.blockfile.specs.declared.fault.RecordFault.TheVariants.{Add}
 use Rattle.blockfile.specs.declared.fault.BlockFault.{BlockFault}
 use Rattle.blockfile.specs.declared.fault.BlockFault.TheVariants.{Sum, Layout, Begin, InRecord}
-use Rattle.blockfile.specs.declared.fault.LoadFault.{LoadFault}
 use Rattle.blockfile.specs.declared.fault.LoadFault.TheVariants.{InBlock}
 use Rattle.blockfile.specs.Codes.{or_no_grade}
 use Rattle.blockfile.specs.Layout.{block_of, count_in, code_of, statement_in, sizes_in, SoundBlock, SoundBelow, Whole}
@@ -61,11 +60,18 @@ module _ {G : Type 0} where
         graded : decoded (code_of file b p) ≡ Some g
         graded = decoded_ok (decoded (code_of file b p)) r g (read ∙ ap (λ m. or_no_grade (decoded m)) code) right
 
-        pub record_accepted : Adds al x g s t (Ok tt) → RecordLoaded al decoded file b p s t (Ok tt)
+        record_accepted : Adds al x g s t (Ok tt) → RecordLoaded al decoded file b p s t (Ok tt)
         record_accepted h = (g, graded, (subst (λ (y : Statement). Adds al y g s t (Ok tt)) is h).1)
 
-        pub record_refused : (why : Refusal) → Adds al x g s t (Err why) → RecordLoaded al decoded file b p s t (Err (Add b p why))
+        record_refused : (why : Refusal) → Adds al x g s t (Err why) → RecordLoaded al decoded file b p s t (Err (Add b p why))
         record_refused why h = (h.0, refl, refl, (g, graded, refused_same s t (statement_in file b p) why h.0 (subst (λ (y : Statement). AddRefused s y why) is h.1)))
+
+        -- what the load of a record answers where add answers k
+        pub record_loaded : (k : Result (Unit {0}) Refusal) (q : Result (Unit {0}) RecordFault) → MatchResult k (λ u. q ≡ Ok u) (λ why. IsErrAnd q (λ f. f ≡ Add b p why)) →
+            Adds al x g s t k → RecordLoaded al decoded file b p s t q
+        record_loaded (Ok tt) q e h = rw e (record_accepted h)
+        record_loaded (Err why) (Ok u) e h = absurd e
+        record_loaded (Err why) (Err f) e h = rw e (record_refused why h)
 
     -- one record more is accepted
     pub accepts_more : (b p : ℕ) (s t : Table G) → p < count_in file b → RecordLoaded al decoded file b p s t (Ok tt) → AcceptsBefore al decoded file b p s → AcceptsBefore al decoded file b (p + 1) t
@@ -96,10 +102,6 @@ module _ {G : Type 0} where
           },
         )
 
-    -- the block answers the fault of the record
-    pub block_stopped : (b : ℕ) (t : Table G) (r : Result (Unit {0}) BlockFault) (y : BlockFault) (f : RecordFault) → r ≡ Err y → y ≡ InRecord f → (block_at f ≡ b) × StoppedAt al decoded file t f → BlockLoaded al decoded file b t r
-    block_stopped b t r y f is same h = rw (is, same) h
-
     module _ (letter n : ℕ) (sound : Whole file n × SoundBelow letter file n) (s t : Table G) where
       pub sizes_stop : (f : BlockFault) → Sized al file s t (Err f) → Loaded al letter decoded file s t (Err (InBlock f))
       sizes_stop (Sum block) h = absurd h
@@ -112,7 +114,3 @@ module _ {G : Type 0} where
       block_stops b (Layout block) lt h = absurd h
       block_stops b (Begin why) lt h = absurd h
       block_stops b (InRecord f) lt h = (n, sound, subst (λ k. k < n) (sym h.0) lt, h.1)
-
-    -- the load that stops with a fault answers it
-    pub stops_with : (letter : ℕ) (s t : Table G) (r : Result (Unit {0}) LoadFault) (y f : LoadFault) → r ≡ Err y → y ≡ f → Loaded al letter decoded file s t (Err f) → Loaded al letter decoded file s t r
-    stops_with letter s t r y f is same h = rw (is, same) h

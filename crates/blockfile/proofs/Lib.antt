@@ -1,4 +1,5 @@
 mod Accepting
-mod Parts
+mod Chunks
+mod Errors
 mod Unsound
 mod Weights

@@ -1,7 +1,5 @@
 -- A file with a fault is not sound.
-use Rattle.std.proofs.Common.{◌≡◌, ℕ, ◌<◌, List, is_ok, Err, Result, inl, inr, arith}
-use Rattle.standpoint.specs.declared.sizes.Sizes.{Sizes}
-use Rattle.standpoint.specs.Lists.{Tells}
+use Rattle.std.proofs.Common.{ℕ, ◌<◌, List, Err, inl, inr, arith}
 use Rattle.blockfile.specs.declared.fault.BlockFault.{BlockFault}
 use Rattle.blockfile.specs.declared.fault.BlockFault.TheVariants.{Sum, Layout, Begin, InRecord}
 use Rattle.blockfile.specs.declared.fault.LoadFault.{LoadFault}
@@ -31,7 +29,3 @@ module _ (letter : ℕ) (file : List ℕ) where
 
   pub faulty_sizes : (n : ℕ) (f : BlockFault) → Whole file n → SoundBelow letter file n → SizesFaulty file f → FaultyFile letter file (InBlock f)
   faulty_sizes n f whole each h = (inr ((n, (whole, each)), h), λ s. h.1 s.sizes)
-
-  -- the check that stops with a fault answers it
-  pub stopped : (r : Result Sizes LoadFault) (y f : LoadFault) → r ≡ Err y → y ≡ f → FaultyFile letter file f → FileChecked letter file r × Tells (is_ok r) (Sound letter file)
-  stopped r y f is same h = rw (is, same) h

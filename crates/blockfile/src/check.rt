@@ -8,29 +8,26 @@ ghost use Rattle.blockfile.specs.Faults.{BlockFaulty, BlocksChecked, SizesFaulty
 ghost use Rattle.blockfile.specs.declared.fault.LoadFault.TheVariants.{Length};
 
 use crate::fault::{BlockFault, LoadFault};
-use crate::layout::laid_out;
-use crate::reader::Reader;
+use crate::reader::Block;
 use crate::stored::StoredKind;
-use crate::sum::summed;
 use standpoint::Sizes;
 
 // The sizes of a sound file of this kind, or its first fault: length, then blocks in order, then sizes.
 pub fn check_file<K: StoredKind>(file: &[u8]) -> Result<Sizes, LoadFault>
-    ensures fault { FileChecked K.StoredKind.letter file.now result }
-    ensures sound { Tells (is_ok result) (Sound K.StoredKind.letter file.now) }
+    ensures fault { FileChecked K.StoredKind.KIND_BYTE file.now result }
+    ensures sound { Tells (is_ok result) (Sound K.StoredKind.KIND_BYTE file.now) }
 {
-    let _blocks = check_blocks(file, K::file_byte())?;
-    let sizes = check_sizes(file)?;
-    Ok(sizes)
+    check_blocks::<K>(file)?;
+    Ok(check_sizes(file)?)
 }
 
 // Checks each block in order and answers how many there are.
-pub(crate) fn check_blocks(file: &[u8], kind_byte: u8) -> Result<u16, LoadFault>
-    ensures { BlocksChecked kind_byte file.now result }
+pub(crate) fn check_blocks<K: StoredKind>(file: &[u8]) -> Result<u16, LoadFault>
+    ensures { BlocksChecked K.StoredKind.KIND_BYTE file.now result }
 {
     let count = count_blocks(file)?;
-    for block in 0..count {
-        check_block(file, kind_byte, block)?;
+    for number in 0..count {
+        check_block(Block { file, number }, K::KIND_BYTE)?;
     }
     Ok(count)
 }
@@ -46,37 +43,29 @@ fn count_blocks(file: &[u8]) -> Result<u16, LoadFault>
 }
 
 // Checks a whole block: its sum first.
-fn check_block(file: &[u8], kind_byte: u8, block: u16) -> Result<(), BlockFault>
-    requires { 512 * (block + 1) ≤ length file.now }
-    ensures { MatchResult result (λ _. SoundBlock kind_byte block (block_of file.now block)) (λ f. BlockFaulty kind_byte block (block_of file.now block) f) }
+fn check_block(block: Block<'_>, kind_byte: u8) -> Result<(), BlockFault>
+    ensures { let bytes = block_of block.entry.file.now block.entry.number in
+        MatchResult result
+        (λ _. SoundBlock kind_byte block.entry.number bytes)
+        (λ f. BlockFaulty kind_byte block.entry.number bytes f) }
 {
-    let reader = Reader {
-        file,
-        block,
-        place: 0,
-    };
-    let bytes = reader.bytes();
-    if !summed(bytes) {
-        return Err(BlockFault::Sum { block });
+    let number = block.number;
+    if !block.is_summed() {
+        return Err(BlockFault::Sum { block: number });
     }
-    if !laid_out(bytes, kind_byte, block) {
-        return Err(BlockFault::Layout { block });
+    if !block.is_laid_out(kind_byte) {
+        return Err(BlockFault::Layout { block: number });
     }
     Ok(())
 }
 
 fn check_sizes(file: &[u8]) -> Result<Sizes, BlockFault>
     requires { 512 ≤ length file.now }
-    ensures { MatchResult result (λ n. (n ≡ sizes_in file.now) × InRange (sizes_in file.now)) (λ f. SizesFaulty file.now f) }
+    ensures { MatchResult result
+        (λ n. (n ≡ sizes_in file.now) × InRange (sizes_in file.now))
+        (λ f. SizesFaulty file.now f) }
 {
-    let reader = Reader {
-        file,
-        block: 0,
-        place: 0,
-    };
-    let sizes = reader.sizes();
-    match sizes.check() {
-        Ok(()) => Ok(sizes),
-        Err(why) => Err(BlockFault::Begin(why)),
-    }
+    let sizes = Block { file, number: 0 }.sizes();
+    sizes.check().map_err(BlockFault::Begin)?;
+    Ok(sizes)
 }

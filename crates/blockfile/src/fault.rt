@@ -44,6 +44,7 @@ pub enum LoadFault {
     InBlock(BlockFault),
 }
 
+// Both conversions are by hand, since contracts say what `?` makes of a fault.
 impl From<RecordFault> for BlockFault {
     ghost from_gives = { λ f r. r ≡ InRecord f };
 
@@ -69,6 +70,7 @@ pub enum Layer {
 }
 
 // What is told of a fault: the refusal, the layer, and the block and the record's place in it, 0 if unused.
+// Flat, as the fault's line is: it prints both numbers at each layer.
 #[derive(Clone, Copy)]
 pub struct FaultReport {
     pub why: Refusal,
@@ -82,48 +84,25 @@ impl LoadFault {
     pub fn report(self) -> FaultReport
         ensures { result ≡ report_of self }
     {
-        match self {
-            LoadFault::Length => FaultReport {
-                why: Refusal::FileLength,
-                layer: Layer::File,
-                block: 0,
-                place: 0,
-            },
-            LoadFault::InBlock(fault) => fault.report(),
-        }
-    }
-}
-
-impl BlockFault {
-    fn report(self) -> FaultReport
-        ensures { result ≡ report_of (InBlock self) }
-    {
-        let (why, block) = match self {
-            BlockFault::Sum { block } => (Refusal::SumDiffers, block),
-            BlockFault::Layout { block } => (Refusal::BlockLayout, block),
-            BlockFault::Begin(why) => (why, 0),
-            BlockFault::InRecord(fault) => return fault.report(),
+        let (why, layer, block, place) = match self {
+            LoadFault::Length => (Refusal::FileLength, Layer::File, 0, 0),
+            LoadFault::InBlock(BlockFault::Sum { block }) => {
+                (Refusal::SumDiffers, Layer::Block, block, 0)
+            }
+            LoadFault::InBlock(BlockFault::Layout { block }) => {
+                (Refusal::BlockLayout, Layer::Block, block, 0)
+            }
+            LoadFault::InBlock(BlockFault::Begin(why)) => (why, Layer::Block, 0, 0),
+            LoadFault::InBlock(BlockFault::InRecord(RecordFault::Code { block, place })) => {
+                (Refusal::NoGrade, Layer::Record, block, place)
+            }
+            LoadFault::InBlock(BlockFault::InRecord(RecordFault::Add { block, place, why })) => {
+                (why, Layer::Record, block, place)
+            }
         };
         FaultReport {
             why,
-            layer: Layer::Block,
-            block,
-            place: 0,
-        }
-    }
-}
-
-impl RecordFault {
-    fn report(self) -> FaultReport
-        ensures { result ≡ report_of (InBlock (InRecord self)) }
-    {
-        let (why, block, place) = match self {
-            RecordFault::Code { block, place } => (Refusal::NoGrade, block, place),
-            RecordFault::Add { block, place, why } => (why, block, place),
-        };
-        FaultReport {
-            why,
-            layer: Layer::Record,
+            layer,
             block,
             place,
         }

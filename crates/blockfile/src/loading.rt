@@ -6,7 +6,7 @@ ghost use Rattle.blockfile.specs.Loads.{AcceptsBefore, RecordLoaded, BlockLoaded
 
 use crate::check::check_blocks;
 use crate::fault::{BlockFault, LoadFault, RecordFault};
-use crate::reader::Reader;
+use crate::reader::{Block, Record};
 use crate::stored::StoredKind;
 use reasoner::{add, begin};
 use saturation::Table;
@@ -18,12 +18,12 @@ pub fn load<K: StoredKind>(
     file: &[u8],
 ) -> Result<(), LoadFault>
     ensures memory { OverSame reasoner.old reasoner.new }
-    ensures answer { Loaded (K.Kind.algebra kind.now) K.StoredKind.letter K.StoredKind.decoded file.now reasoner.old reasoner.new result }
+    ensures answer { Loaded (K.Kind.algebra kind.now) K.StoredKind.KIND_BYTE K.StoredKind.decoded file.now reasoner.old reasoner.new result }
 {
-    let blocks = check_blocks(file, K::file_byte())?;
+    let blocks = check_blocks::<K>(file)?;
     begin_sized(reasoner, kind, file)?;
-    for block in 1..blocks {
-        load_block(reasoner, kind, file, block)?;
+    for number in 1..blocks {
+        load_block(reasoner, kind, Block { file, number })?;
     }
     Ok(())
 }
@@ -38,36 +38,24 @@ fn begin_sized<K: StoredKind>(
     ensures memory { OverSame reasoner.old reasoner.new }
     ensures answer { Sized (K.Kind.algebra kind.now) file.now reasoner.old reasoner.new result }
 {
-    let first = Reader {
-        file,
-        block: 0,
-        place: 0,
-    };
-    match begin(reasoner, kind, first.sizes()) {
-        Ok(()) => Ok(()),
-        Err(why) => Err(BlockFault::Begin(why)),
-    }
+    let sizes = Block { file, number: 0 }.sizes();
+    begin(reasoner, kind, sizes).map_err(BlockFault::Begin)
 }
 
 // Accepts the records of a block in order.
 fn load_block<K: StoredKind>(
     reasoner: &mut Table<'_, K::Grade>,
     kind: &K,
-    file: &[u8],
-    block: u16,
+    block: Block<'_>,
 ) -> Result<(), BlockFault>
-    requires { (512 * (block + 1) ≤ length file.now) × ((count_in file.now block ≤ 41) × (AcceptsBefore (K.Kind.algebra kind.now) K.StoredKind.decoded file.now block 0 reasoner.old)) }
+    requires few { count_in block.file.now block.number ≤ 41 }
+    requires before { AcceptsBefore (K.Kind.algebra kind.now) K.StoredKind.decoded block.file.now block.number 0 reasoner.old }
     ensures memory { OverSame reasoner.old reasoner.new }
-    ensures answer { BlockLoaded (K.Kind.algebra kind.now) K.StoredKind.decoded file.now block reasoner.new result }
+    ensures answer { BlockLoaded (K.Kind.algebra kind.now) K.StoredKind.decoded block.entry.file.now block.entry.number reasoner.new result }
 {
-    let first = Reader {
-        file,
-        block,
-        place: 0,
-    };
-    let count = u16::from(first.count());
+    let count = u16::from(block.count());
     for place in 0..count {
-        load_record(reasoner, kind, Reader { file, block, place })?;
+        load_record(reasoner, kind, Record { block, place })?;
     }
     Ok(())
 }
@@ -76,23 +64,15 @@ fn load_block<K: StoredKind>(
 fn load_record<K: StoredKind>(
     reasoner: &mut Table<'_, K::Grade>,
     kind: &K,
-    at: Reader<'_>,
+    at: Record<'_>,
 ) -> Result<(), RecordFault>
     ensures memory { OverSame reasoner.old reasoner.new }
-    ensures answer { RecordLoaded (K.Kind.algebra kind.now) K.StoredKind.decoded at.entry.file.now at.entry.block at.entry.place reasoner.old reasoner.new result }
+    ensures answer { RecordLoaded (K.Kind.algebra kind.now) K.StoredKind.decoded at.entry.block.file.now at.entry.block.number at.entry.place reasoner.old reasoner.new result }
 {
+    let block = at.block.number;
+    let place = at.place;
     let Ok(grade) = K::decode(at.code()) else {
-        return Err(RecordFault::Code {
-            block: at.block,
-            place: at.place,
-        });
+        return Err(RecordFault::Code { block, place });
     };
-    match add(reasoner, kind, at.statement(), grade) {
-        Ok(()) => Ok(()),
-        Err(why) => Err(RecordFault::Add {
-            block: at.block,
-            place: at.place,
-            why,
-        }),
-    }
+    add(reasoner, kind, at.statement(), grade).map_err(|why| RecordFault::Add { block, place, why })
 }

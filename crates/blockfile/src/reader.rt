@@ -1,69 +1,57 @@
 // A lent block file, read in place.
 ghost use Rattle.std.specs.Prelude.{◌≡◌, ◌+◌, ◌*◌, ◌≤◌, length};
-ghost use Rattle.blockfile.specs.Layout.{block_of, record_of, code_of, count_in, statement_in, sizes_in};
+ghost use Rattle.standpoint.specs.Lists.{Tells};
+ghost use Rattle.blockfile.specs.Layout.{block_of, record_of, code_of, count_in, statement_in, sizes_in, Summed, LaidOut};
 
-use crate::sum::big_endian;
+use crate::layout::is_laid_out;
+use crate::sum::is_summed;
 use standpoint::{Sizes, Statement};
 
-// Stands at a block of the lent file and at a record in it, and yields what is there without a copy.
+// A block of the lent file.
 #[derive(Clone, Copy)]
-pub struct Reader<'a> {
+pub struct Block<'a> {
     pub file: &'a [u8],
-    pub block: u16,
-    pub place: u16,
-    ghost block_inside: { 512 * (block + 1) ≤ length file.now },
-    ghost place_inside: { place ≤ 40 },
+    pub number: u16,
+    ghost inside: { 512 * (number + 1) ≤ length file.now },
 }
 
-impl<'a> Reader<'a> {
+// A record of the block.
+#[derive(Clone, Copy)]
+pub struct Record<'a> {
+    pub block: Block<'a>,
+    pub place: u16,
+    ghost inside: { place ≤ 40 },
+}
+
+impl<'a> Block<'a> {
     // The bytes of the block.
-    pub fn bytes(&self) -> &'a [u8]
-        ensures value { result.now ≡ block_of self.now.file.now self.now.block }
-        ensures len { length result.now ≡ 512 }
+    pub fn bytes(&self) -> &'a [u8; 512]
+        ensures { result.now ≡ block_of self.now.file.now self.now.number }
     {
-        let from = 512 * usize::from(self.block);
-        &self.file[from..from + 512]
+        let (blocks, _) = self.file.as_chunks::<512>();
+        &blocks[usize::from(self.number)]
+    }
+
+    // Whether the block holds the sum of its bytes.
+    pub fn is_summed(&self) -> bool
+        ensures { Tells result (Summed (block_of self.now.file.now self.now.number)) }
+    {
+        is_summed(self.bytes())
+    }
+
+    // Whether all but the sum is as it has to be.
+    pub fn is_laid_out(&self, kind_byte: u8) -> bool
+        ensures { Tells result
+            (LaidOut kind_byte self.now.number (block_of self.now.file.now self.now.number)) }
+    {
+        is_laid_out(self.bytes(), kind_byte, self.number)
     }
 
     // How many records the block says that it has.
     pub fn count(&self) -> u8
-        ensures { result ≡ count_in self.now.file.now self.now.block }
+        ensures { result ≡ count_in self.now.file.now self.now.number }
     {
-        self.file[512 * usize::from(self.block) + 5]
-    }
-
-    // The bytes of the record.
-    pub fn record_bytes(&self) -> &'a [u8]
-        ensures value { result.now ≡ record_of self.now.file.now self.now.block self.now.place }
-        ensures len { length result.now ≡ 12 }
-    {
-        let from = 512 * usize::from(self.block) + 8 + 12 * usize::from(self.place);
-        &self.file[from..from + 12]
-    }
-
-    // The statement of the record.
-    pub fn statement(&self) -> Statement
-        ensures { result ≡ statement_in self.now.file.now self.now.block self.now.place }
-    {
-        let from = 512 * usize::from(self.block) + 12 * usize::from(self.place);
-        Statement {
-            shape: self.file[from + 8],
-            first: u16::from(self.file[from + 9]),
-            second: u16::from(self.file[from + 10]),
-            third: u16::from(self.file[from + 11]),
-            fourth: u16::from(self.file[from + 12]),
-            fifth: u16::from(self.file[from + 13]),
-        }
-    }
-
-    // The code of the record's grade.
-    pub fn code(&self) -> u32
-        ensures { result ≡ code_of self.now.file.now self.now.block self.now.place }
-    {
-        big_endian(
-            self.file,
-            512 * usize::from(self.block) + 14 + 12 * usize::from(self.place),
-        )
+        self.bytes()[5]
     }
 
     // The sizes that block 0 states.
@@ -76,5 +64,41 @@ impl<'a> Reader<'a> {
             roles: u16::from(self.file[10]),
             individuals: u16::from(self.file[11]),
         }
+    }
+}
+
+impl<'a> Record<'a> {
+    // The bytes of the record.
+    pub fn bytes(&self) -> &'a [u8; 12]
+        ensures { result.now
+            ≡ record_of self.now.block.file.now self.now.block.number self.now.place }
+    {
+        let (records, _) = self.block.bytes()[8..].as_chunks::<12>();
+        &records[usize::from(self.place)]
+    }
+
+    // The statement of the record.
+    pub fn statement(&self) -> Statement
+        ensures { result
+            ≡ statement_in self.now.block.file.now self.now.block.number self.now.place }
+    {
+        let [shape, first, second, third, fourth, fifth, ..] = *self.bytes();
+        Statement {
+            shape,
+            first: u16::from(first),
+            second: u16::from(second),
+            third: u16::from(third),
+            fourth: u16::from(fourth),
+            fifth: u16::from(fifth),
+        }
+    }
+
+    // The code of the record's grade.
+    pub fn code(&self) -> u32
+        ensures { result
+            ≡ code_of self.now.block.file.now self.now.block.number self.now.place }
+    {
+        let [_, _, _, _, _, _, a, b, c, d, ..] = *self.bytes();
+        u32::from_be_bytes([a, b, c, d])
     }
 }

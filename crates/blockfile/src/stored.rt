@@ -13,7 +13,7 @@ use standpoint::{
 pub trait StoredKind: Kind {
     const KIND_BYTE: u8;
 
-    ghost letter: { ℕ };
+    ghost KIND_BYTE: { ℕ };
 
     ghost coded: { Self.Grade → ℕ };
 
@@ -21,7 +21,10 @@ pub trait StoredKind: Kind {
 
     // The kind byte of every block.
     fn file_byte() -> u8
-        ensures { result ≡ letter };
+        ensures { result ≡ KIND_BYTE }
+    {
+        Self::KIND_BYTE
+    }
 
     // The code of a grade.
     fn encode(grade: Self::Grade) -> u32
@@ -40,7 +43,7 @@ pub trait StoredKind: Kind {
 impl StoredKind for Tally {
     const KIND_BYTE: u8 = b'T';
 
-    ghost letter = { 84 };
+    ghost KIND_BYTE = { 84 };
 
     ghost coded = { tally_code };
 
@@ -49,10 +52,6 @@ impl StoredKind for Tally {
     ghost back = { λ x. bounded_some 4294967295 tally_grade x.value x.within };
 
     ghost forth = { λ n x is. ap tally_code (bounded_only 4294967295 tally_grade n x is).1 };
-
-    fn file_byte() -> u8 {
-        Self::KIND_BYTE
-    }
 
     fn encode(grade: TallyGrade) -> u32 {
         grade.value
@@ -66,7 +65,7 @@ impl StoredKind for Tally {
 impl StoredKind for Letter {
     const KIND_BYTE: u8 = b'L';
 
-    ghost letter = { 76 };
+    ghost KIND_BYTE = { 76 };
 
     ghost coded = { letter_code };
 
@@ -76,14 +75,11 @@ impl StoredKind for Letter {
 
     ghost forth = { Prim.search rules };
 
-    fn file_byte() -> u8 {
-        Self::KIND_BYTE
-    }
-
     fn encode(grade: LetterGrade) -> u32 {
         grade as u32
     }
 
+    // A match, since the letters stand in a crate that knows no codes: it has no TryFrom<u32>.
     fn decode(code: u32) -> Result<LetterGrade, Refusal> {
         match code {
             0 => Ok(LetterGrade::A),
@@ -96,10 +92,11 @@ impl StoredKind for Letter {
     }
 }
 
+// Beside tallies an impl of its own: each kind names its grade's type, and the ranges of the values differ.
 impl StoredKind for Odds {
     const KIND_BYTE: u8 = b'O';
 
-    ghost letter = { 79 };
+    ghost KIND_BYTE = { 79 };
 
     ghost coded = { odds_code };
 
@@ -109,27 +106,22 @@ impl StoredKind for Odds {
 
     ghost forth = { λ n x is. ap odds_code (bounded_only 255 odds_grade n x is).1 };
 
-    fn file_byte() -> u8 {
-        Self::KIND_BYTE
-    }
-
     fn encode(grade: OddsGrade) -> u32 {
         u32::from(grade.value)
     }
 
     fn decode(code: u32) -> Result<OddsGrade, Refusal> {
-        if code <= 255 {
-            Ok(OddsGrade { value: code as u8 })
-        } else {
-            Err(Refusal::NoGrade)
-        }
+        let Ok(value) = u8::try_from(code) else {
+            return Err(Refusal::NoGrade);
+        };
+        Ok(OddsGrade { value })
     }
 }
 
 impl<K: StoredKind + Drop> StoredKind for Surcharge<K> {
     const KIND_BYTE: u8 = K::KIND_BYTE;
 
-    ghost letter = { K.StoredKind.letter };
+    ghost KIND_BYTE = { K.StoredKind.KIND_BYTE };
 
     ghost coded = { K.StoredKind.coded };
 
@@ -138,10 +130,6 @@ impl<K: StoredKind + Drop> StoredKind for Surcharge<K> {
     ghost back = { Prim.search rules };
 
     ghost forth = { Prim.search rules };
-
-    fn file_byte() -> u8 {
-        K::file_byte()
-    }
 
     fn encode(grade: K::Grade) -> u32 {
         K::encode(grade)

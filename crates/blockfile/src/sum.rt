@@ -1,7 +1,7 @@
 // The sum that guards a block.
-ghost use Rattle.std.specs.Prelude.{◌≡◌, ◌+◌, ◌≤◌, length};
+ghost use Rattle.std.specs.Prelude.{◌≡◌, ◌≤◌, length};
 ghost use Rattle.standpoint.specs.Lists.{Tells};
-ghost use Rattle.blockfile.specs.Layout.{weighted, big4, Summed};
+ghost use Rattle.blockfile.specs.Layout.{weighted, Summed};
 
 // Each byte times its place, counted from 1.
 fn weighted_sum(bytes: &[u8]) -> u32
@@ -15,18 +15,10 @@ fn weighted_sum(bytes: &[u8]) -> u32
     sum
 }
 
-// The number of four bytes at i.
-pub(crate) fn big_endian(bytes: &[u8], i: usize) -> u32
-    requires { i + 4 ≤ length bytes.now }
-    ensures { result ≡ big4 bytes.now i }
-{
-    u32::from_be_bytes([bytes[i], bytes[i + 1], bytes[i + 2], bytes[i + 3]])
-}
-
 // Whether the block's last four bytes hold the sum of the others.
-pub(crate) fn summed(block: &[u8]) -> bool
-    requires { length block.now ≡ 512 }
+pub(crate) fn is_summed(block: &[u8; 512]) -> bool
     ensures { Tells result (Summed block.now) }
 {
-    weighted_sum(&block[0..508]) == big_endian(block, 508)
+    let sum = u32::from_be_bytes([block[508], block[509], block[510], block[511]]);
+    weighted_sum(&block[0..508]) == sum
 }

@@ -15,18 +15,16 @@ impl fmt::Display for Answer {
     fn fmt<W: fmt::Write>(&self, f: &mut fmt::Formatter<W>) -> fmt::Result {
         match *self {
             Answer::Passes(code) => write!(f, "passes {code}"),
-            Answer::Refused(refusal) => show_refusal(refusal, f),
+            Answer::Refused(refusal) => {
+                let number = refusal.number();
+                match refusal {
+                    Refusal::WrongStep(place) => write!(f, "refused {number} {place}"),
+                    _ => write!(f, "refused {number}"),
+                }
+            }
             Answer::Code(code) => write!(f, "{code}"),
             Answer::Truth(true) => write!(f, "yes"),
             Answer::Truth(false) => write!(f, "no"),
         }
-    }
-}
-
-fn show_refusal<W: fmt::Write>(refusal: Refusal, f: &mut fmt::Formatter<W>) -> fmt::Result {
-    let number = refusal.number();
-    match refusal {
-        Refusal::WrongStep(place) => write!(f, "refused {number} {place}"),
-        _ => write!(f, "refused {number}"),
     }
 }

@@ -40,6 +40,7 @@ pub enum Base {
 }
 
 // The surcharges over a kind, by the codes of their fixed grades.
+// No list, since each number of them makes a type of its own, and a third is refused.
 #[derive(Clone, Copy)]
 pub enum Surcharges {
     Zero,

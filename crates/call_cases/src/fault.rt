@@ -1,4 +1,5 @@
 // Why the recorded cases cannot be performed to the end.
+// `main` prints it by `Debug`: a derive of its conversions would ask for messages that nothing prints.
 use std::alloc::{AllocError, AllocFailed};
 use std::io;
 

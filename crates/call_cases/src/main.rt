@@ -24,8 +24,8 @@ fn run(rt: &HostRuntime) -> Result<(), Fault> {
     let heap = rt.alloc();
     let text = fs::read_to_string(rt, "calls.txt")?;
     let cases = read_cases(heap, text.as_str())?;
-    let mut score = Score::new();
-    for case in cases.iter() {
+    let mut score = Score::default();
+    for case in &cases {
         perform_case(heap, case, &mut score)?;
     }
     print(rt, score)

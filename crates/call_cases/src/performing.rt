@@ -48,7 +48,7 @@ fn perform_with<K: StoredKind + Drop>(
     score: &mut Score,
 ) -> Result<(), Fault> {
     let mut play = Play::new(heap, kind);
-    for line in case.lines.iter() {
+    for line in &case.lines {
         let outcome = play.perform(line.call)?;
         score.count(heap, case.number, *line, outcome)?;
     }

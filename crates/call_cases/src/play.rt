@@ -100,5 +100,5 @@ impl<K: StoredKind + Drop> Play<K> {
 
 // The grade of a code.
 pub(crate) fn grade<K: StoredKind>(code: u32) -> Result<K::Grade, Fault> {
-    K::decode(code).ok().ok_or(Fault::NoGrade(code))
+    K::decode(code).map_err(|_| Fault::NoGrade(code))
 }

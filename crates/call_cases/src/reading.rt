@@ -13,9 +13,8 @@ pub struct Case<'a> {
     pub lines: Vec<Line<'a>>,
 }
 
-// What a line says.
+// What a line says, if it is not blank.
 enum Said<'a> {
-    Nothing,
     Case(u32),
     Kind(KindName),
     Call(Call, &'a str),
@@ -26,10 +25,9 @@ pub(crate) fn read_cases(heap: Global, text: &str) -> Result<Vec<Case<'_>>, Faul
     let mut cases = Vec::new(heap);
     for (index, line) in text.lines().enumerate() {
         let number = index.saturating_add(1);
-        let Some(said) = read_line(line) else {
-            return Err(Fault::Unread(number));
-        };
-        take_line(heap, &mut cases, number, said)?;
+        if let Some(said) = read_line(line, number)? {
+            take_line(heap, &mut cases, number, said)?;
+        }
     }
     Ok(cases)
 }
@@ -41,7 +39,6 @@ fn take_line<'a>(
     said: Said<'a>,
 ) -> Result<(), Fault> {
     match said {
-        Said::Nothing => {}
         Said::Case(number) => cases.push(Case {
             number,
             kind: None,
@@ -62,30 +59,35 @@ fn last<'a, 'b>(cases: &'b mut Vec<Case<'a>>, number: usize) -> Result<&'b mut C
     cases.last_mut().ok_or(Fault::Unread(number))
 }
 
-fn read_line(line: &str) -> Option<Said<'_>> {
+fn read_line(line: &str, number: usize) -> Result<Option<Said<'_>>, Fault> {
     let (line, _) = line.split_once("#").unwrap_or((line, ""));
     let (text, recorded) = line.split_once(" -> ").unwrap_or((line, ""));
     let mut words = Words::new(text);
     let Some(name) = words.word() else {
-        return Some(Said::Nothing);
+        return Ok(None);
     };
-    match name {
-        "case" => Some(Said::Case(words.number()?)),
-        "kind" => Some(Said::Kind(words.kind_name()?)),
-        _ => Some(Said::Call(call(name, &mut words)?, recorded)),
-    }
+    let said = meaning(name, &mut words, recorded);
+    Ok(Some(said.ok_or(Fault::Unread(number))?))
+}
+
+fn meaning<'a>(name: &str, words: &mut Words<'_>, recorded: &'a str) -> Option<Said<'a>> {
+    Some(match name {
+        "case" => Said::Case(words.number()?),
+        "kind" => Said::Kind(words.kind_name()?),
+        _ => Said::Call(call(name, words)?, recorded),
+    })
 }
 
 fn call(name: &str, words: &mut Words<'_>) -> Option<Call> {
-    match name {
-        "check" => Some(Call::Check(words.sizes()?)),
-        "accept" => Some(Call::Accept(words.statement()?, words.number()?)),
-        "step" => Some(Call::Step(words.step()?)),
-        "verdict" => Some(Call::Verdict),
-        "start" => Some(Call::Start),
-        "join" => Some(Call::Join(words.number()?, words.number()?)),
-        "noworse" => Some(Call::NoWorse(words.number()?, words.number()?)),
-        "make" | "begin" | "add" | "settle" | "ask" | "explain" | "load" => Some(Call::Skipped),
-        _ => None,
-    }
+    Some(match name {
+        "check" => Call::Check(words.sizes()?),
+        "accept" => Call::Accept(words.statement()?, words.number()?),
+        "step" => Call::Step(words.step()?),
+        "verdict" => Call::Verdict,
+        "start" => Call::Start,
+        "join" => Call::Join(words.number()?, words.number()?),
+        "noworse" => Call::NoWorse(words.number()?, words.number()?),
+        "make" | "begin" | "add" | "settle" | "ask" | "explain" | "load" => Call::Skipped,
+        _ => return None,
+    })
 }

@@ -4,7 +4,7 @@ use crate::fault::Fault;
 use crate::play::Outcome;
 use std::alloc::Global;
 
-#[derive(Clone, Copy)]
+#[derive(Clone, Copy, Default)]
 pub struct Score {
     pub agree: u64,
     pub answers: u64,
@@ -20,15 +20,6 @@ pub struct Difference {
 }
 
 impl Score {
-    pub(crate) fn new() -> Score {
-        Score {
-            agree: 0,
-            answers: 0,
-            skipped: 0,
-            first_difference: None,
-        }
-    }
-
     // Counts what came of a line of the case.
     pub(crate) fn count(
         &mut self,

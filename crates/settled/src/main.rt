@@ -3,7 +3,7 @@
 
 use blockfile::{LoadFault, StoredKind, load};
 use reasoner::settle;
-use saturation::{Kept, Row, Table};
+use saturation::{Row, Table};
 use settled_text::{refused_line, settled_line};
 use standpoint::{Kind, Letter, Odds, Refusal, Statement, Tally};
 use std::alloc::AllocError;
@@ -15,7 +15,7 @@ const ROWS: usize = 4096;
 
 const LONGEST_FILE: u64 = 65_536;
 
-// Why the program ends with status 1.
+// Why the program ends with status 1. An enum with a From for each source: no message is ever printed.
 #[derive(Drop)]
 enum Stop {
     Refused,
@@ -41,25 +41,10 @@ impl From<Refusal> for Stop {
     }
 }
 
-fn empty_row() -> Row {
-    Row {
-        statement: Statement::CONTRADICTION,
-        kept: Kept {
-            rule: 0,
-            first: 0,
-            second: 0,
-            third: 0,
-        },
-        place: None,
-        turn: 0,
-        mark: false,
-    }
-}
-
 fn print_refused(rt: &HostRuntime, fault: LoadFault) -> Result<(), Stop> {
     let mut text = [0u8; 80];
     let len = refused_line(fault, &mut text)?;
-    rt.write_all(&text[0..len])?;
+    rt.write_all(&text[..len])?;
     Ok(())
 }
 
@@ -71,7 +56,7 @@ fn print_line<K: StoredKind, W: Write>(
 ) -> Result<usize, Stop> {
     let mut text = [0u8; 80];
     let len = settled_line::<K>(reasoner, k, &mut text)?;
-    out.write_all(&text[0..len])?;
+    out.write_all(&text[..len])?;
     Ok(len)
 }
 
@@ -90,24 +75,25 @@ fn print_settled<K: StoredKind>(
 }
 
 fn run<K: StoredKind>(rt: &HostRuntime, kind: &K, file: &[u8]) -> Result<(), Stop> {
-    let mut rows = vec![in rt.alloc(); empty_row(); ROWS]?;
+    let mut rows = vec![in rt.alloc(); Row::EMPTY; ROWS]?;
     let mut grades = vec![in rt.alloc(); kind.start(); ROWS]?;
     let mut reasoner = Table::make(&mut rows, &mut grades);
     if let Err(fault) = load(&mut reasoner, kind, file) {
         print_refused(rt, fault)?;
         return Err(Stop::Refused);
     }
-    let (_count, _stand) = settle(&mut reasoner, kind, u32::MAX)?;
+    settle(&mut reasoner, kind, u32::MAX)?;
     print_settled::<K>(rt, &reasoner)
 }
 
 // One byte more than the longest sound file is enough to refuse a longer one.
+// The switch on the kind byte stands where it is used: a shared one would need a trait for each use of a kind.
 fn run_input(rt: &HostRuntime) -> Result<(), Stop> {
     let mut file = Vec::new(rt.alloc());
     rt.stdin().take(LONGEST_FILE + 1).read_to_end(&mut file)?;
     match file.get(4).copied() {
-        Some(b'L') => run(rt, &Letter, &file),
-        Some(b'O') => run(rt, &Odds, &file),
+        Some(Letter::KIND_BYTE) => run(rt, &Letter, &file),
+        Some(Odds::KIND_BYTE) => run(rt, &Odds, &file),
         _ => run(rt, &Tally, &file),
     }
 }

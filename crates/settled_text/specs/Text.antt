@@ -1,5 +1,5 @@
 -- The bytes of each line, and what a call that writes a line leaves.
-use Rattle.std.specs.Prelude.{◌≡◌, ℕ, ◌<◌, ◌≤◌, Bool, true, false, cond, List, [], ◌∷◌, ◌++◌, map, length, take, drop, Ok, Err, codes, decimal, Result, nat_le, slice_index_or}
+use Rattle.std.specs.Prelude.{◌≡◌, ℕ, ◌<◌, ◌≤◌, Bool, true, false, cond, List, [], ◌∷◌, ◌++◌, map, length, drop, Ok, Err, codes, decimal, Result, nat_le, slice_index_or}
 use Rattle.std.specs.List.{range_with_len}
 use Rattle.standpoint.specs.declared.refusal.Refusal.{Refusal}
 use Rattle.standpoint.specs.declared.refusal.Refusal.TheVariants.{NotBegun, BufferTooShort}
@@ -12,11 +12,6 @@ use Rattle.saturation.specs.Phases.{is_begun, stands_full}
 use Rattle.saturation.specs.Tables.{view}
 use Rattle.saturation.specs.Searching.{premises_in, Lists}
 use Rattle.blockfile.specs.declared.fault.FaultReport.{FaultReport}
-use Rattle.settled_text.specs.declared.line.Line.{Line}
-
--- what a line holds so far
-abbrev pub text : Line → List ℕ
-text l = take l.len l.bytes
 
 -- the line of a stopped load
 abbrev pub refused_text : FaultReport → List ℕ

@@ -5,11 +5,10 @@ ghost use Rattle.settled_text.specs.Text.{refused_text, Written};
 ghost use Rattle.blockfile.specs.Faults.{report_of};
 
 use blockfile::LoadFault;
-use line::Line;
 pub use settled::settled_line;
 use standpoint::Refusal;
+use writing::{Line, copy_line, push_number};
 
-mod line;
 mod settled;
 mod writing;
 
@@ -19,12 +18,12 @@ pub fn refused_line(fault: LoadFault, buffer: &mut [u8]) -> Result<usize, Refusa
 {
     let report = fault.report();
     let mut line = Line::new();
-    line.part(b"refused ");
-    line.number(u32::from(report.why.number()));
-    line.part(b" block ");
-    line.number(u32::from(report.block));
-    line.part(b" record ");
-    line.number(u32::from(report.place));
-    line.push(b'\n');
-    line.copy_to(buffer)
+    line.push_str("refused ");
+    push_number(&mut line, report.why.number());
+    line.push_str(" block ");
+    push_number(&mut line, report.block);
+    line.push_str(" record ");
+    push_number(&mut line, report.place);
+    line.push('\n');
+    copy_line(&line, buffer)
 }

@@ -2,7 +2,7 @@
 ghost use Rattle.std.specs.Prelude.{◌≡◌, ◌≤◌, length, IfOk};
 ghost use Rattle.settled_text.specs.Text.{statement_text, stand_word, stand_text, stand_of, Written, RowsLine, RunLine};
 
-use crate::line::Line;
+use crate::writing::{Line, copy_line, push_next_number, push_number};
 use blockfile::StoredKind;
 use runs::Stand;
 use saturation::{Phase, Table};
@@ -34,25 +34,25 @@ fn statement_line(statement: Statement, code: u32, buffer: &mut [u8]) -> Result<
     ensures { Written (statement_text statement code) buffer.old buffer.new result }
 {
     let mut line = Line::new();
-    line.number(u32::from(statement.shape));
-    line.blank_number(u32::from(statement.first));
-    line.blank_number(u32::from(statement.second));
-    line.blank_number(u32::from(statement.third));
-    line.blank_number(u32::from(statement.fourth));
-    line.blank_number(u32::from(statement.fifth));
-    line.blank_number(code);
-    line.push(b'\n');
-    line.copy_to(buffer)
+    push_number(&mut line, statement.shape);
+    push_next_number(&mut line, statement.first);
+    push_next_number(&mut line, statement.second);
+    push_next_number(&mut line, statement.third);
+    push_next_number(&mut line, statement.fourth);
+    push_next_number(&mut line, statement.fifth);
+    push_next_number(&mut line, code);
+    line.push('\n');
+    copy_line(&line, buffer)
 }
 
 fn stand_line(stand: Stand, count: u32, buffer: &mut [u8]) -> Result<usize, Refusal>
     ensures { Written (stand_text stand count) buffer.old buffer.new result }
 {
     let mut line = Line::new();
-    line.part(word(stand));
-    line.number(count);
-    line.push(b'\n');
-    line.copy_to(buffer)
+    line.push_str(word(stand));
+    push_number(&mut line, count);
+    line.push('\n');
+    copy_line(&line, buffer)
 }
 
 fn stand_of<G: Copy>(reasoner: &Table<'_, G>) -> Stand
@@ -64,13 +64,13 @@ fn stand_of<G: Copy>(reasoner: &Table<'_, G>) -> Stand
     }
 }
 
-fn word(stand: Stand) -> &'static [u8]
+fn word(stand: Stand) -> &'static str
     ensures value { result.now ≡ stand_word stand }
     ensures bound { length result.now ≤ 6 }
 {
     match stand {
-        Stand::Open => b"open ",
-        Stand::Ended => b"ended ",
-        Stand::Full => b"full ",
+        Stand::Open => "open ",
+        Stand::Ended => "ended ",
+        Stand::Full => "full ",
     }
 }

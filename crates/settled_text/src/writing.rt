@@ -1,77 +1,44 @@
 // Writing a line, part by part.
-ghost use Rattle.std.specs.Prelude.{◌≡◌, ◌+◌, ◌<◌, ◌≤◌, [], ◌∷◌, ◌++◌, length, decimal};
-ghost use Rattle.settled_text.specs.Text.{text, Written};
+ghost use Rattle.std.specs.Prelude.{◌≡◌, ◌+◌, ◌≤◌, ◌∷◌, ◌++◌};
+ghost use Rattle.arrayvec.specs.ArrayString.{array_string_len};
+ghost use Rattle.settled_text.specs.Text.{Written};
 
-use crate::line::Line;
+use arrayvec::ArrayString;
+use itoa::{Buffer, Integer};
 use standpoint::Refusal;
 
-impl Line {
-    pub(crate) fn new() -> Line
-        ensures { (text result ≡ []) × (result.len ≡ 0) }
-    {
-        Line {
-            bytes: [0; 80],
-            len: 0,
-        }
-    }
+// A line of at most 80 bytes, held in place.
+// Numbers are not pushed by `write!`: of an `Err` of it nothing is known, not even that the line is full.
+pub(crate) type Line = ArrayString<80>;
 
-    pub(crate) fn push(&mut self, byte: u8)
-        requires { self.old.len < 80 }
-        ensures text { text self.new ≡ text self.old ++ byte ∷ [] }
-        ensures len { self.new.len ≡ self.old.len + 1 }
-    {
-        self.bytes[self.len] = byte;
-        self.len += 1;
-    }
+// The number in decimal.
+pub(crate) fn push_number<N: Integer>(line: &mut Line, number: N)
+    requires { array_string_len line.old + N.MAX_STR_LEN ≤ 80 }
+    ensures bytes { line.new.bytes ≡ line.old.bytes ++ N.text number }
+    ensures bound { array_string_len line.new ≤ array_string_len line.old + N.MAX_STR_LEN }
+{
+    let mut digits = Buffer::new();
+    line.push_str(digits.format(number));
+}
 
-    fn digits(&mut self, n: u32)
-        requires { self.old.len + length (decimal n) ≤ 80 }
-        ensures text { text self.new ≡ text self.old ++ decimal n }
-        ensures len { self.new.len ≡ self.old.len + length (decimal n) }
-    {
-        if n >= 10 {
-            self.digits(n / 10);
-        }
-        self.push(b'0' + (n % 10) as u8);
-    }
+// A blank and the number.
+pub(crate) fn push_next_number<N: Integer>(line: &mut Line, number: N)
+    requires { array_string_len line.old + 1 + N.MAX_STR_LEN ≤ 80 }
+    ensures bytes { line.new.bytes ≡ line.old.bytes ++ (32 ∷ N.text number) }
+    ensures bound { array_string_len line.new ≤ array_string_len line.old + 1 + N.MAX_STR_LEN }
+{
+    line.push(' ');
+    push_number(line, number);
+}
 
-    // The number in decimal, at most ten digits.
-    pub(crate) fn number(&mut self, n: u32)
-        requires { self.old.len + 10 ≤ 80 }
-        ensures text { text self.new ≡ text self.old ++ decimal n }
-        ensures bound { self.new.len ≤ self.old.len + 10 }
-    {
-        self.digits(n);
+// Copies the line to the front of the buffer and answers its length.
+pub(crate) fn copy_line(line: &Line, buffer: &mut [u8]) -> Result<usize, Refusal>
+    ensures { Written line.now.bytes buffer.old buffer.new result }
+{
+    let len = line.len();
+    if buffer.len() < len {
+        return Err(Refusal::BufferTooShort);
     }
-
-    pub(crate) fn blank_number(&mut self, n: u32)
-        requires { self.old.len + 11 ≤ 80 }
-        ensures text { text self.new ≡ text self.old ++ (32 ∷ decimal n) }
-        ensures bound { self.new.len ≤ self.old.len + 11 }
-    {
-        self.push(b' ');
-        self.number(n);
-    }
-
-    pub(crate) fn part(&mut self, bytes: &[u8])
-        requires { self.old.len + length bytes.now ≤ 80 }
-        ensures text { text self.new ≡ text self.old ++ bytes.now }
-        ensures len { self.new.len ≡ self.old.len + length bytes.now }
-    {
-        for byte in bytes {
-            self.push(*byte);
-        }
-    }
-
-    // Copies the line to the front of the buffer and answers its length.
-    pub(crate) fn copy_to(&self, buffer: &mut [u8]) -> Result<usize, Refusal>
-        ensures { Written (text self.now) buffer.old buffer.new result }
-    {
-        let len = self.len;
-        if buffer.len() < len {
-            return Err(Refusal::BufferTooShort);
-        }
-        buffer[0..len].copy_from_slice(&self.bytes[0..len]);
-        Ok(len)
-    }
+    buffer[..len].copy_from_slice(line.as_str().as_bytes());
+    Ok(len)
 }

@@ -8,4 +8,4 @@ abbrev pub invariant-loop-place : goal.invariant-loop-place
 invariant-loop-place g l =
     OverSame l.initial.reasoner l.reasoner
     × (l.place ≤ l.count)
-    × AcceptsBefore (g.K.Kind.algebra l.kind) g.K.StoredKind.decoded l.file l.block l.place l.reasoner
+    × AcceptsBefore (g.K.Kind.algebra l.kind) g.K.StoredKind.decoded l.block.file.now l.block.number l.place l.reasoner
