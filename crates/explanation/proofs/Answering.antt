@@ -1,5 +1,6 @@
 -- The parts of an explanation put together: the answer, and the reasoner as it was.
-use Rattle.std.proofs.Common.{◌≡◌, ℕ, ◌+◌, ◌<◌, ◌≤◌, true, false, List, length, Some, None, Ok, Err, Option, Result, sym, ap, ◌∙◌, subst, arith}
+use Rattle.std.proofs.Common.{◌≡◌, ℕ, ◌+◌, ◌<◌, ◌≤◌, true, false, List, length, Some, None, Ok, Err, Option, Result, sym, ap, ◌∙◌, subst, arith, MatchOption}
+use Rattle.std.specs.Prelude.{◌≢◌}
 use Rattle.std.specs.Option.{ok_or}
 use Rattle.standpoint.specs.declared.refusal.Refusal.{Refusal}
 use Rattle.standpoint.specs.declared.refusal.Refusal.TheVariants.{NotBegun, Unsettled, RestsOnLater, BufferTooShort}
@@ -8,7 +9,7 @@ use Rattle.standpoint.specs.declared.step.Step.{Step}
 use Rattle.saturation.specs.declared.table.Table.{Table}
 use Rattle.saturation.specs.Phases.{is_begun}
 use Rattle.saturation.specs.Rows.{Unmarked}
-use Rattle.saturation.specs.Tables.{State, view}
+use Rattle.saturation.specs.Tables.{State, view, statement_at, turn_at}
 use Rattle.explanation.specs.Needed.{Unfounded, rank, Written}
 use Rattle.explanation.specs.Marks.{mark_at, Clean, ButMarks, MarksDown}
 use Rattle.explanation.specs.Explaining.{Asked, FirstSettled, SettledAs, Finds, NotFound, before_begin, not_settled, NotWritten, rests_on_later, Writes, WritesNeeded, not_found, not_written, Explains}
@@ -19,6 +20,11 @@ module _ {G : Type 0} where
   pub finds : (s : Table G) (x : Statement) (o : Option ℕ) (r : Result ℕ Refusal) → r ≡ ok_or o Unsettled → Asked s x → SettledAs (view s) x o → Finds s x r
   finds s x None r is asked at = subst (Finds s x) (sym is) (not_settled asked at)
   finds s x (Some t) r is asked at = subst (Finds s x) (sym is) (asked, at)
+
+  pub settled_first : (s : State G) (x : Statement) (r : Option ℕ) →
+      MatchOption r ((k : ℕ) → 0 ≤ k → k < s.settled → statement_at s (turn_at s k) ≢ x) (λ i. (0 ≤ i) × (i < s.settled) × (statement_at s (turn_at s i) ≡ x) × ((k : ℕ) → 0 ≤ k → k < i → statement_at s (turn_at s k) ≢ x)) → SettledAs s x r
+  settled_first s x None none = λ k h. none k (omega arith) h
+  settled_first s x (Some t) (low, within, holds, first) = record { within = within; holds = holds; first = λ k h. first k (omega arith) h }
 
   pub finds_idle : (s : Table G) (x : Statement) (r : Result ℕ Refusal) → r ≡ Err NotBegun → is_begun s.phase ≡ false → Finds s x r
   finds_idle s x r is off = subst (Finds s x) (sym is) (before_begin off)

@@ -101,23 +101,3 @@ module _ {G : Type 0} where
         let e2 = b.len in
         let whole : ◌≡◌ {A = State G} (record { rows = u.rows; grades = u.grades; len = u.len; settled = u.settled }) (record { rows = s.rows; grades = s.grades; len = s.len; settled = s.settled }) = cc in
         whole
-
-  -- what the clearing loop keeps
-  abbrev pub Clearing : Table G → Table G → ℕ → Type 0
-  Clearing a b k = Same a b × ButMarks (view a) (view b) × ((j : ℕ) → j < k → mark_at (view b) j ≡ false)
-
-  pub clearing_more : (a b c : Table G) (k : ℕ) → k < a.settled → Same b c → view c ≡ with_mark (view b) k false → Clearing a b k → Clearing a c (k + 1)
-  clearing_more a b c k h same e (before, but, done) =
-      let f = a.settled_fit in
-      let g = a.rows_fit in
-      let e1 = but.settled in
-      let e2 = but.long in
-      let hb : k < b.settled = omega arith in
-      let fb : b.settled ≤ length b.rows.now = omega arith in
-      let w = with_mark (view b) k false in
-      let more : ButMarks (view a) w × ((j : ℕ) → j < k + 1 → mark_at w j ≡ false) = (
-        but_marks_trans (view a) (view b) w but (but_one_mark (view b) k false hb fb),
-        λ j lt. ⊎_elim (λ i. subst (λ (n : ℕ). mark_at w n ≡ false) (sym i) (mark_here (view b) k false hb fb)) (λ ne. mark_there (view b) k false hb fb j ne ∙ done j (omega arith)) (equal_or j k),
-      ) in
-      let there = subst (λ (x : State G). ButMarks (view a) x × ((j : ℕ) → j < k + 1 → mark_at x j ≡ false)) (sym e) more in
-      (same_then before same, there.0, there.1)

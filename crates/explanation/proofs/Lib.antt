@@ -1,4 +1,5 @@
 pub mod ButMarks
+mod Clearing
 pub mod Marking
 pub mod Ranks
 pub mod Written

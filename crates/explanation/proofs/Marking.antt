@@ -140,26 +140,22 @@ abbrev pub Marking : {G : Type 0} → Table G → Table G → ℕ → ℕ → Ty
 Marking {G} u v t i = Same u v × (v.settled ≡ u.settled) × ((s : State G) → MarksDown s (view u) t 0 → MarksDown s (view v) t i)
 
 module _ {G : Type 0} (u v : Table G) (t i : ℕ) (loop : Marking u v t i) where
-  pub marking_skip : i < t + 1 → false ≡ mark_at (view v) (t - i) → Marking u v t (i + 1)
-  marking_skip h un = (loop.0, loop.1, λ s p. marks_skip s (view v) t i (t - i) (omega arith) (sym un) (loop.2 s p))
-
-  pub marking_more : (w : Table G) → t < u.settled → i < t + 1 → true ≡ mark_at (view v) (t - i) → RestsEarlier (view v) (t - i) true →
-      Same v w → AddsMarks (view v) (view w) (Rests (view v) (t - i)) → Marking u w t (i + 1)
-  marking_more w within h m early same adds = (
-    same_then loop.0 same,
-    adds.but_marks.settled ∙ loop.1,
-    λ s p. let e = p.but_marks.settled in marks_more s (view v) (view w) t i (t - i) (omega arith) (omega arith) (sym m) early adds (loop.2 s p),
-  )
-
   -- the loop's states, seen from before the t-th was marked
   module _ (a : Table G) (within : t < a.settled) (clean : Clean (view a)) (first : view u ≡ with_mark (view a) t true) where
-    marks_so_far : MarksDown (view a) (view v) t i
+    pub marks_so_far : MarksDown (view a) (view v) t i
     marks_so_far = let f = a.settled_fit in let g = a.rows_fit in loop.2 (view a) (marks_start (view a) (view u) t within (omega arith) clean first)
 
-    pub marking_stops : i < t + 1 → true ≡ mark_at (view v) (t - i) → RestsEarlier (view v) (t - i) false → ButMarks (view a) (view v) × Unfounded (view a) t
-    marking_stops h m late = marks_stopped (view a) (view v) t i (t - i) within (omega arith) (sym m) late marks_so_far
+  -- the k-th is the next one
+  module _ (k : ℕ) (next : k + i ≡ t) where
+    pub marking_skip : false ≡ mark_at (view v) k → Marking u v t (i + 1)
+    marking_skip un = (loop.0, loop.1, λ s p. marks_skip s (view v) t i k next (sym un) (loop.2 s p))
 
-    pub marking_ends : t + 1 ≤ i → MarksDown (view a) (view v) t (t + 1)
-    marking_ends all =
-        let p = marks_so_far in
-        record { but_marks = p.but_marks; own = p.own; sound = p.sound; closed = λ q le lt. p.closed q le (omega arith) }
+    pub marking_more : (w : Table G) → t < u.settled → true ≡ mark_at (view v) k → RestsEarlier (view v) k true → Same v w → AddsMarks (view v) (view w) (Rests (view v) k) → Marking u w t (i + 1)
+    marking_more w within m early same adds = (
+      same_then loop.0 same,
+      adds.but_marks.settled ∙ loop.1,
+      λ s p. let e = p.but_marks.settled in marks_more s (view v) (view w) t i k (omega arith) next (sym m) early adds (loop.2 s p),
+    )
+
+    pub marking_stops : (a : Table G) → t < a.settled → Clean (view a) → view u ≡ with_mark (view a) t true → true ≡ mark_at (view v) k → RestsEarlier (view v) k false → ButMarks (view a) (view v) × Unfounded (view a) t
+    marking_stops a within clean first m late = marks_stopped (view a) (view v) t i k within next (sym m) late (marks_so_far a within clean first)

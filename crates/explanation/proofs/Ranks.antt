@@ -1,5 +1,10 @@
 -- How many of the first places are chosen.
-use Rattle.std.proofs.Common.{◌≡◌, ℕ, zero, suc, ◌+◌, ◌<◌, ◌≤◌, Bool, true, false, cond, sym, refl, ap, ◌∙◌, subst, ⊎_elim, arith}
+use Rattle.std.proofs.Common.{◌≡◌, ℕ, zero, suc, ◌+◌, ◌<◌, ◌≤◌, Bool, true, false, cond, List, [], ◌∷◌, ◌++◌, length, take, get_or, sym, refl, ap, ◌∙◌, subst, ⊎_elim, arith, length-append}
+use Rattle.std.specs.List.{filter}
+use lib.Seq.{take-suc}
+use Rattle.std.proofs.lemmas.List.Elements.{filter-append}
+use Rattle.saturation.specs.declared.row.Row.{Row}
+use Rattle.saturation.specs.Rows.{no_row}
 use Rattle.saturation.proofs.Offers.{last_or, below_or}
 use Rattle.explanation.specs.Needed.{rank}
 
@@ -49,12 +54,19 @@ module _ (m : ℕ → Bool) where
       here true e ge = let f : one_if (m b) ≡ one_if true = ap one_if e in (b, omega arith, e, omega arith)
       here false e ge = let f : one_if (m b) ≡ one_if false = ap one_if e in absurd (let z : ⊥ = omega arith in z)
 
-  -- what a loop that counts keeps
-  abbrev pub Counting : ℕ → ℕ → Type 0
-  Counting i n = (n ≡ rank m i) × (n ≤ i)
-
-  pub counting_more : (i n n' : ℕ) → true ≡ m i → n' ≡ n + 1 → Counting i n → Counting (i + 1) n'
-  counting_more i n n' e is (all, low) = (is ∙ ap (λ (k : ℕ). k + 1) all ∙ sym (rank_taken i (sym e)), omega arith)
-
-  pub counting_skip : (i n n' : ℕ) → false ≡ m i → n' ≡ n → Counting i n → Counting (i + 1) n'
-  counting_skip i n n' e is (all, low) = (is ∙ all ∙ sym (rank_left i (sym e)), omega arith)
+-- how many of the first rows are marked
+pub count_ranks : (rows : List Row) (k : ℕ) → k ≤ length rows → length (filter (λ (r : Row). r.mark) (take k rows)) ≡ rank (λ j. (get_or rows j no_row).mark) k
+count_ranks rows zero h = refl
+count_ranks rows (suc k) h =
+    let marked : Row → Bool = λ r. r.mark in
+    let next : take (suc k) rows ≡ take k rows ++ get_or rows k no_row ∷ [] = take-suc rows k no_row (omega arith) in
+    let one : (r : Row) → length (filter marked (r ∷ [])) ≡ cond r.mark 1 0 = λ r. one_counted r r.mark refl in
+    ap (λ (rs : List Row). length (filter marked rs)) next
+    ∙ ap length (filter-append marked (take k rows) (get_or rows k no_row ∷ []))
+    ∙ length-append (filter marked (take k rows)) (filter marked (get_or rows k no_row ∷ []))
+    ∙ ap (λ (n : ℕ). n + length (filter marked (get_or rows k no_row ∷ []))) (count_ranks rows k (omega arith))
+    ∙ ap (λ (n : ℕ). rank (λ j. (get_or rows j no_row).mark) k + n) (one (get_or rows k no_row))
+  where
+    one_counted : (r : Row) (b : Bool) → r.mark ≡ b → length (filter (λ (r : Row). r.mark) (r ∷ [])) ≡ cond r.mark 1 0
+    one_counted r true e = rw e refl
+    one_counted r false e = rw e refl

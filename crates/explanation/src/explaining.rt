@@ -52,14 +52,7 @@ fn settling_place<G: Copy>(reasoner: &Table<'_, G>, statement: Statement) -> Res
 fn first_settled<G: Copy>(reasoner: &Table<'_, G>, statement: Statement) -> Option<usize>
     ensures { SettledAs (view reasoner.now) statement result }
 {
-    for k in 0..reasoner.settled {
-        let at = reasoner.rows[k].turn;
-        let held = reasoner.rows[at].statement;
-        if held == statement {
-            return Some(k);
-        }
-    }
-    None
+    (0..reasoner.settled).find(|&k| reasoner.rows[reasoner.rows[k].turn].statement == statement)
 }
 
 // The answer for the t-th settled statement; leaves marks behind.

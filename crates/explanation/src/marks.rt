@@ -1,12 +1,12 @@
 // Marks at settling places. They may stand only while the reasoner counts as not begun.
-ghost use Rattle.std.specs.Prelude.{◌≡◌, ◌+◌, ◌<◌, ◌≤◌, true, false};
+ghost use Rattle.std.specs.Prelude.{◌≡◌, ◌+◌, ◌<◌, ◌≤◌, true, false, map};
 ghost use Rattle.saturation.specs.Phases.{is_begun};
 ghost use Rattle.saturation.specs.Rows.{Unmarked};
 ghost use Rattle.saturation.specs.Tables.{view, Same, OverSame};
 ghost use Rattle.explanation.specs.Needed.{kept_at, Rests};
-ghost use Rattle.explanation.specs.Marks.{mark_at, with_mark, Clean, ButMarks, AddsMarks, RestsEarlier, MarksNeeded};
+ghost use Rattle.explanation.specs.Marks.{mark_at, remarked, with_mark, Clean, ButMarks, AddsMarks, RestsEarlier, MarksNeeded};
 
-use saturation::{Kept, Phase, Table};
+use saturation::{Kept, Phase, Row, Table};
 use standpoint::Refusal;
 
 // A reasoner counts as begun only without marks.
@@ -41,8 +41,15 @@ pub(crate) fn clear<G: Copy>(reasoner: &mut Table<'_, G>)
     ensures state { ButMarks (view reasoner.old) (view reasoner.new) }
     ensures clean { Clean (view reasoner.new) }
 {
-    for k in 0..reasoner.settled {
-        set_mark(reasoner, k, false);
+    unmark(&mut reasoner.rows[..reasoner.settled]);
+}
+
+// Takes the marks of rows back.
+fn unmark(rows: &mut [Row])
+    ensures { rows.new ≡ map (λ r. remarked r false) rows.old }
+{
+    for row in rows {
+        row.mark = false;
     }
 }
 
@@ -94,8 +101,7 @@ pub(crate) fn mark_needed<G: Copy>(reasoner: &mut Table<'_, G>, t: usize) -> Res
     ensures state { MarksNeeded (view reasoner.old) (view reasoner.new) t result }
 {
     set_mark(reasoner, t, true);
-    for i in 0..t + 1 {
-        let k = t - i;
+    for k in (0..=t).rev() {
         if marked(reasoner, k) {
             if !rests_earlier(reasoner, k) {
                 return Err(Refusal::RestsOnLater);

@@ -1,11 +1,11 @@
 // Writing the marked steps out.
-ghost use Rattle.std.specs.Prelude.{◌≡◌, ◌+◌, ◌<◌, ◌≤◌, true, length, slice_set};
+ghost use Rattle.std.specs.Prelude.{◌≡◌, ◌+◌, ◌<◌, ◌≤◌, true, length, slice_set, filter};
 ghost use Rattle.saturation.specs.Tables.{view};
 ghost use Rattle.explanation.specs.Needed.{rank, Renumbers, Written};
 ghost use Rattle.explanation.specs.Marks.{mark_at, MarksFounded, RestsEarlier};
 
 use crate::marks::marked;
-use saturation::Table;
+use saturation::{Row, Table};
 use standpoint::Step;
 
 // How many of the first k settling places are marked.
@@ -13,13 +13,13 @@ pub(crate) fn count_marked<G: Copy>(reasoner: &Table<'_, G>, k: usize) -> usize
     requires { k ≤ reasoner.now.settled }
     ensures { result ≡ rank (mark_at (view reasoner.now)) k }
 {
-    let mut count = 0;
-    for i in 0..k {
-        if marked(reasoner, i) {
-            count += 1;
-        }
-    }
-    count
+    marked_among(&reasoner.rows[..k])
+}
+
+fn marked_among(rows: &[Row]) -> usize
+    ensures { result ≡ length (filter (λ r. r.mark) rows.now) }
+{
+    rows.iter().filter(|row| row.mark).count()
 }
 
 // The k-th kept step, with the places that its premises have among the marked ones.
@@ -40,6 +40,7 @@ fn renumbered<G: Clone + Copy + Drop>(reasoner: &Table<'_, G>, k: usize) -> Step
     }
 }
 
+// A write of its own: among what the loop knows, no bound is found for a place of a `Step` of any size.
 fn put<G: Clone + Copy + Drop>(buffer: &mut [Step<G>], n: usize, step: Step<G>)
     requires { n < length buffer.old }
     ensures { buffer.new ≡ slice_set buffer.old n step }

@@ -1,5 +1,31 @@
-use Rattle.explanation.proofs.ButMarks.{clearing_more}
+use Rattle.std.proofs.Common.{◌≤◌, length, refl, arith}
+use borrow.Author.Tests.{both_ways}
+use Rattle.saturation.specs.declared.table.Table.{Table}
+use Rattle.saturation.specs.Tables.{view}
+use Rattle.explanation.proofs.Clearing.{settled_rows, cleared_long, cleared_turns, cleared_but, cleared_clean}
 use Rattle.explanation.proofs.marks.clear.Goals as goal
 
-pub loop-k-preserved : goal.loop-k-preserved
-loop-k-preserved g c = clearing_more c.args.reasoner.now c.loop-k.reasoner c.set_mark.new.reasoner c.loop-k.k c.loop-k-test.true c.set_mark.ensures.same c.set_mark.ensures.state c.loop-k.invariant
+pub invariant_of-reasoner-clause-rows_fit : goal.invariant_of-reasoner-clause-rows_fit
+invariant_of-reasoner-clause-rows_fit g c =
+    let t = c.args.reasoner.now in
+    let long = cleared_long t.rows.now t.settled (settled_rows t) c.unmark.new.rows c.unmark.ensures in
+    let fits = t.rows_fit in
+    omega arith
+
+pub invariant_of-reasoner-clause-turns : goal.invariant_of-reasoner-clause-turns
+invariant_of-reasoner-clause-turns g c =
+    let t = c.args.reasoner.now in
+    cleared_turns t.rows.now t.settled (settled_rows t) c.unmark.new.rows c.unmark.ensures t.len t.turns
+
+pub invariant_of-reasoner-clause-marks : goal.invariant_of-reasoner-clause-marks
+invariant_of-reasoner-clause-marks g c on = absurd (both_ways _ c.requires on)
+
+pub returns-clause-state : goal.returns-clause-state
+returns-clause-state g c =
+    let t = c.args.reasoner.now in
+    cleared_but t.rows.now t.settled (settled_rows t) c.unmark.new.rows c.unmark.ensures (view t) _ refl refl refl refl refl refl
+
+pub returns-clause-clean : goal.returns-clause-clean
+returns-clause-clean g c =
+    let t = c.args.reasoner.now in
+    cleared_clean t.rows.now t.settled (settled_rows t) c.unmark.new.rows c.unmark.ensures (view t) _ refl refl refl refl refl refl

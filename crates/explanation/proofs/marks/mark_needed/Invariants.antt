@@ -1,6 +1,7 @@
+use Rattle.std.proofs.Common.{◌-◌}
 use Rattle.explanation.proofs.Marking.{Marking}
 use Rattle.explanation.proofs.marks.mark_needed.Given as goal
 
--- with each of the last i places its premises are marked
-abbrev pub invariant-loop-i : goal.invariant-loop-i
-invariant-loop-i g l = Marking l.initial.reasoner l.reasoner l.t l.i
+-- with each place after the k-th its premises are marked
+abbrev pub invariant-loop-k : goal.invariant-loop-k
+invariant-loop-k g l = Marking l.initial.reasoner l.reasoner l.t (l.t - l.k)

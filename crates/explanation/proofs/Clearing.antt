@@ -1,0 +1,60 @@
+-- Rows whose marks below a place are taken back.
+use Rattle.std.proofs.Common.{◌≡◌, ℕ, ◌-◌, ◌+◌, ◌<◌, ◌≤◌, false, List, ◌++◌, length, map, take, drop, get_or, sym, refl, ap, ◌∙◌, subst, ⊎_elim, arith, length-append}
+use Rattle.std.proofs.lemmas.List.{get_or_append_left, get_or-append_right, get_or-map, get_or-take, get_or-drop, length-map, length-take-le, length-drop}
+use Rattle.saturation.specs.declared.row.Row.{Row}
+use Rattle.saturation.specs.Rows.{no_row, TurnsWithin}
+use Rattle.saturation.specs.declared.table.Table.{Table}
+use Rattle.saturation.specs.Tables.{State, row_at}
+use Rattle.saturation.proofs.Offers.{below_or}
+use Rattle.explanation.specs.Marks.{mark_at, remarked, Clean, ButMarks}
+
+pub settled_rows : {G : Type 0} (t : Table G) → t.settled ≤ length t.rows.now
+settled_rows t = let f = t.settled_fit in let g = t.rows_fit in omega arith
+
+module _ (rows : List Row) (n : ℕ) (fit : n ≤ length rows) (part : List Row) (is : part ≡ map (λ (r : Row). remarked r false) (take n rows)) where
+  part_long : length part ≡ n
+  part_long = ap length is ∙ length-map (take n rows) (λ (r : Row). remarked r false) ∙ length-take-le n rows fit
+
+  pub cleared_long : length (part ++ drop n rows) ≡ length rows
+  cleared_long = let p = part_long in let d = length-drop n rows in let a = length-append part (drop n rows) in omega arith
+
+  below_cleared : (k : ℕ) → k < n → get_or (part ++ drop n rows) k no_row ≡ remarked (get_or rows k no_row) false
+  below_cleared k h =
+      let p = part_long in
+      let t = length-take-le n rows fit in
+      get_or_append_left part (drop n rows) no_row k (omega arith)
+      ∙ ap (λ (rs : List Row). get_or rs k no_row) is
+      ∙ get_or-map (λ (r : Row). remarked r false) (take n rows) k no_row no_row (omega arith)
+      ∙ ap (λ (r : Row). remarked r false) (get_or-take n rows k no_row h)
+
+  above_cleared : (k : ℕ) → n ≤ k → get_or (part ++ drop n rows) k no_row ≡ get_or rows k no_row
+  above_cleared k h =
+      get_or-append_right part (drop n rows) n k no_row part_long h
+      ∙ get_or-drop n rows (k - n) no_row
+      ∙ ap (λ (j : ℕ). get_or rows j no_row) (let e : n + (k - n) ≡ k = omega arith in e)
+
+  pub cleared_turns : (len : ℕ) → TurnsWithin rows n len → TurnsWithin (part ++ drop n rows) n len
+  cleared_turns len turns k h = subst (λ (t : ℕ). t < len) (sym (ap (λ (r : Row). r.turn) (below_cleared k h))) (turns k h)
+
+  module _ {G : Type 0} (s u : State G) (of : s.rows ≡ rows) (at : s.settled ≡ n) (new : u.rows ≡ part ++ drop n rows) (len : u.len ≡ s.len) (settled : u.settled ≡ s.settled) (grades : u.grades ≡ s.grades) where
+    row_below : (k : ℕ) → k < n → row_at u k ≡ remarked (row_at s k) false
+    row_below k h = ap (λ (rs : List Row). get_or rs k no_row) new ∙ below_cleared k h ∙ ap (λ (rs : List Row). remarked (get_or rs k no_row) false) (sym of)
+
+    row_above : (k : ℕ) → n ≤ k → row_at u k ≡ row_at s k
+    row_above k h = ap (λ (rs : List Row). get_or rs k no_row) new ∙ above_cleared k h ∙ ap (λ (rs : List Row). get_or rs k no_row) (sym of)
+
+    pub cleared_but : ButMarks s u
+    cleared_but = record {
+      len = len;
+      settled = settled;
+      grades = grades;
+      long = ap length new ∙ cleared_long ∙ ap length (sym of);
+      each = λ k. ⊎_elim
+          (λ lt. row_below k lt ∙ ap (remarked (row_at s k)) (sym (ap (λ (r : Row). r.mark) (row_below k lt))))
+          (λ ge. row_above k ge ∙ ap (remarked (row_at s k)) (sym (ap (λ (r : Row). r.mark) (row_above k ge))))
+          (below_or k n);
+      above = λ k h. row_above k (omega arith);
+    }
+
+    pub cleared_clean : Clean u
+    cleared_clean k h = ap (λ (r : Row). r.mark) (row_below k (omega arith))
