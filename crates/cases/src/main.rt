@@ -5,7 +5,7 @@ use blockfile::{LoadFault, StoredKind, load};
 use reasoner::settle;
 use saturation::{Row, Table};
 use settled_text::{refused_line, settled_line};
-use standpoint::{Kind, Letter, Odds, Statement, Tally};
+use standpoint::{Kind, Letter, Odds, Tally};
 use std::alloc::{AllocError, Global};
 use std::{fs, io};
 

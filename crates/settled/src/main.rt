@@ -5,7 +5,7 @@ use blockfile::{LoadFault, StoredKind, load};
 use reasoner::settle;
 use saturation::{Row, Table};
 use settled_text::{refused_line, settled_line};
-use standpoint::{Kind, Letter, Odds, Refusal, Statement, Tally};
+use standpoint::{Kind, Letter, Odds, Refusal, Tally};
 use std::alloc::AllocError;
 use std::io;
 use std::io::{BufWriter, Read, Write};
