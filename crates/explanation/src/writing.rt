@@ -27,7 +27,6 @@ fn renumbered<G: Clone + Copy + Drop>(reasoner: &Table<'_, G>, k: usize) -> Step
     requires { (k < reasoner.now.settled) × RestsEarlier (view reasoner.now) k true }
     ensures { Renumbers (view reasoner.now) (mark_at (view reasoner.now)) k result }
 {
-    let grades: &[G] = reasoner.grades;
     let at = reasoner.rows[k].turn;
     let row = reasoner.rows[at];
     Step {
@@ -36,7 +35,7 @@ fn renumbered<G: Clone + Copy + Drop>(reasoner: &Table<'_, G>, k: usize) -> Step
         second: count_marked(reasoner, row.kept.second),
         third: count_marked(reasoner, row.kept.third),
         statement: row.statement,
-        grade: grades[at],
+        grade: reasoner.grades[at],
     }
 }
 

@@ -39,8 +39,7 @@ fn settled_grade<G: Clone + Copy + Drop>(reasoner: &Table<'_, G>, statement: Sta
 {
     let i = reasoner.find(statement)?;
     reasoner.rows[i].place?;
-    let grades: &[G] = reasoner.grades;
-    Some(grades[i])
+    Some(reasoner.grades[i])
 }
 
 // What is said of a statement that is not settled.

@@ -4,7 +4,6 @@ ghost use Rattle.standpoint.specs.Lists.{Tells};
 ghost use Rattle.saturation.specs.Tables.{view};
 ghost use Rattle.saturation.specs.Choosing.{Ahead, RowsAhead, RowAhead, Chosen};
 
-use crate::row::Row;
 use crate::table::Table;
 use standpoint::{Kind, Statement};
 
@@ -58,14 +57,12 @@ impl<'a, G: Copy> Table<'a, G> {
         requires { (i < self.now.len) × (j < self.now.len) }
         ensures { Tells result (RowAhead (K.Kind.algebra kind.now) (view self.now) i j) }
     {
-        let grades: &[G] = self.grades;
-        let rows: &[Row] = self.rows;
         comes_first(
             kind,
-            grades[i],
-            rows[i].statement,
-            grades[j],
-            rows[j].statement,
+            self.grades[i],
+            self.rows[i].statement,
+            self.grades[j],
+            self.rows[j].statement,
         )
     }
 }

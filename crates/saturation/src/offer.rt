@@ -48,7 +48,6 @@ impl<'a, G: Copy> Table<'a, G> {
         if place.is_some() {
             return false;
         }
-        let grades: &[G] = self.grades;
-        !kind.no_worse(grades[i], grade)
+        !kind.no_worse(self.grades[i], grade)
     }
 }

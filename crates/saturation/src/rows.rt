@@ -64,8 +64,7 @@ impl<'a, G: Copy> Table<'a, G> {
         requires { k < self.now.settled }
         ensures { result ≡ statement_at (view self.now) (turn_at (view self.now) k) }
     {
-        let at = self.rows[k].turn;
-        self.rows[at].statement
+        self.rows[self.rows[k].turn].statement
     }
 
     // The grade of the k-th settled statement.
@@ -73,9 +72,7 @@ impl<'a, G: Copy> Table<'a, G> {
         requires { k < self.now.settled }
         ensures { (d : G) → result ≡ slice_index_or self.now.grades.now (turn_at (view self.now) k) d }
     {
-        let grades: &[G] = self.grades;
-        let at = self.rows[k].turn;
-        grades[at]
+        self.grades[self.rows[k].turn]
     }
 }
 
