@@ -56,8 +56,10 @@ fn agrees<K: StoredKind>(
     if let Err(fault) = load(&mut reasoner, kind, file) {
         return Ok(refused_so(fault, expected));
     }
-    let settled = settle(&mut reasoner, kind, u32::MAX).is_ok();
-    Ok(settled && settled_so::<K>(&reasoner, expected))
+    match settle(&mut reasoner, kind, u32::MAX) {
+        Ok((_count, _stand)) => Ok(settled_so::<K>(&reasoner, expected)),
+        Err(_) => Ok(false),
+    }
 }
 
 fn agrees_by_kind(heap: Global, file: &[u8], expected: &[u8]) -> Result<bool, AllocError> {

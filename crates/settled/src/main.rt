@@ -82,7 +82,7 @@ fn run<K: StoredKind>(rt: &HostRuntime, kind: &K, file: &[u8]) -> Result<(), Sto
         print_refused(rt, fault)?;
         return Err(Stop::Refused);
     }
-    settle(&mut reasoner, kind, u32::MAX)?;
+    let (_count, _stand) = settle(&mut reasoner, kind, u32::MAX)?;
     print_settled::<K>(rt, &reasoner)
 }
 
