@@ -1,20 +1,14 @@
 use Rattle.std.proofs.Common.{ℕ, sym, subst}
-use Rattle.saturation.specs.Phases.{sizes_of}
 use Rattle.saturation.specs.Tables.{view}
 use Rattle.saturation.specs.Turns.{Turned}
 use Rattle.saturation.proofs.Going.{went_on}
-use Rattle.saturation.proofs.Lasting.{turned_long}
 use Rattle.saturation.proofs.table.Table.go_on.Goals as goal
 
-pub returns : goal.returns
-returns g c =
+pub returns-clause-run : goal.returns-clause-run
+returns-clause-run g c =
     let al = g.K.Kind.algebra c.args.kind.now in
     let t = c.args.self.now in
     let u = view c.settle_one.new.self in
-    record {
-      same = c.settle_one.ensures.same;
-      long = turned_long al (sizes_of t.phase).individuals (view t) u c.settle_one.result c.settle_one.ensures.state;
-      run = λ base e settled h.
-          went_on al base settled (view t) h u t.grades_fit c.settle_one.result
-          (subst (λ (n : ℕ). Turned al n (view t) u c.settle_one.result) (sym e) c.settle_one.ensures.state);
-    }
+    λ base e settled h.
+    went_on al base settled (view t) h u t.grades_fit c.settle_one.result
+    (subst (λ (n : ℕ). Turned al n (view t) u c.settle_one.result) (sym e) c.settle_one.ensures.state)

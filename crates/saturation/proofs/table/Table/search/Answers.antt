@@ -5,27 +5,14 @@ use Rattle.saturation.specs.Searching.{Went, Around}
 use Rattle.saturation.proofs.Numbering.{nth_rule, nth_number}
 use Rattle.saturation.proofs.Sameness.{same_then}
 use Rattle.saturation.proofs.Searches.{Below, went_start, went_more, went_stopped}
-use Rattle.saturation.proofs.Enumerating.{Ruled, Using, went_rule, went_all, went_first_rule}
+use Rattle.saturation.proofs.Enumerating.{Ruled, Using, went_rule, went_all}
 use Rattle.saturation.proofs.table.Table.search.Goals as goal
-
-pub search-init : goal.search-init
-search-init g c =
-    let al = g.K.Kind.algebra c.args.kind.now in
-    (refl, (refl, refl, refl), went_first_rule al c.args.individuals (view c.args.self.now) c.args.newest)
 
 pub loop-i-init : goal.loop-i-init
 loop-i-init g c =
     let al = g.K.Kind.algebra c.args.kind.now in
     let v = c.args.individuals in
     (c.search.invariant.0, (refl, refl, refl), went_start al v (view c.search.self) (Around al v _ c.args.newest) (Using al v c.args.newest))
-
-pub around-outcome-requires : goal.around-outcome-requires
-around-outcome-requires g c =
-    let a = c.requires in
-    let outer = c.search.invariant.2.grown.settled in
-    let inner = c.loop-i.invariant.2.grown.settled in
-    let here = c.loop-i-test.true in
-    (omega arith, omega arith)
 
 pub loop-i-preserved : goal.loop-i-preserved
 loop-i-preserved g c =
@@ -57,8 +44,8 @@ search-preserved g c =
     let here = subst (λ (rule : ℕ). Went al v (view s) (view t) (Below (Around al v rule n) c.loop-i.i) (Using al v n) true) (nth_number k below) inv.2 in
     (inv.0, same_then out.1 inv.1, went_rule al v (view r) (view s) (view t) n (k + 1) c.loop-i.i (r.settled_fit, r.turns) (omega arith) end out.2 here)
 
-pub returns-after-search : goal.returns-after-search
-returns-after-search g c =
+pub returns-after-search-clause-state : goal.returns-after-search-clause-state
+returns-after-search-clause-state g c =
     let al = g.K.Kind.algebra c.args.kind.now in
     let v = c.args.individuals in
     let r = c.args.self.now in
@@ -68,10 +55,10 @@ returns-after-search g c =
     let end : 23 ≤ c.search.rule-index = c.search-test.false in
     let all = went_all al v (view r) (view s) n (c.search.rule-index + 1) (omega arith) out.2 in
     let on = out.0 in
-    record { same = out.1; state = subst (Went al v (view r) (view s) (Using al v n) (Using al v n)) (sym on) all }
+    subst (Went al v (view r) (view s) (Using al v n) (Using al v n)) (sym on) all
 
-pub returns-then-is_err : goal.returns-then-is_err
-returns-then-is_err g c =
+pub returns-then-is_err-clause-state : goal.returns-then-is_err-clause-state
+returns-then-is_err-clause-state g c =
     let al = g.K.Kind.algebra c.args.kind.now in
     let v = c.args.individuals in
     let r = c.args.self.now in
@@ -86,7 +73,4 @@ returns-then-is_err g c =
     let off = c.if-is_err.ensures.negation in
     let here = went_stopped al v (view s) (view t) (view u) (Below F c.loop-i.i) (F c.loop-i.i) (Using al v n) (Using al v n) true (is_ok c.around-outcome.result) (s.settled_fit, s.turns) refl off inv.2 c.around-outcome.ensures.state in
     let all = went_stopped al v (view r) (view s) (view u) (Below (Ruled al v n) (k + 1)) (Using al v n) (Using al v n) (Using al v n) true false (r.settled_fit, r.turns) refl refl out.2 here in
-    record {
-      same = same_then out.1 (same_then inv.1 c.around-outcome.ensures.same);
-      state = subst (Went al v (view r) (view u) (Using al v n) (Using al v n)) (sym off) all;
-    }
+    subst (Went al v (view r) (view u) (Using al v n) (Using al v n)) (sym off) all

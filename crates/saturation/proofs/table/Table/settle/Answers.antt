@@ -11,8 +11,8 @@ use Rattle.saturation.proofs.table.Table.settle.Goals as goal
 pub loop-k-init : goal.loop-k-init
 loop-k-init g c = ((refl, refl, refl), refl, so_far_none (g.K.Kind.algebra c.args.kind.now) (sizes_of c.args.self.now.phase).individuals (view c.args.self.now))
 
-pub returns-in-Nothing : goal.returns-in-Nothing
-returns-in-Nothing g c =
+pub returns-in-Nothing-clause-run : goal.returns-in-Nothing-clause-run
+returns-in-Nothing-clause-run g c =
     let al = g.K.Kind.algebra c.args.kind.now in
     let s = c.args.self.now in
     let v : ℕ = (sizes_of s.phase).individuals in
@@ -21,15 +21,10 @@ returns-in-Nothing g c =
     let fits = fits_capacity (view t) t.rows_fit t.grades_fit t.few in
     let u = c.go_on.new.self in
     let on = subst (λ (p : Phase). GoesOn al (sizes_of p).individuals (view t) (view u) turn.Nothing) inv.0.2 c.in-Nothing.ensures.run in
-    record {
-      same = same_then inv.0 c.go_on.ensures.same;
-      long = c.go_on.ensures.long ∙ inv.1;
-      within = omega arith;
-      run = so_far_ended al v (view s) (view t) (view u) c.loop-k.k inv.2 inv.1 fits c.args.n c.loop-k-test.true on c.go_on.ensures.long (fits_capacity (view u) u.rows_fit u.grades_fit u.few);
-    }
+    so_far_ended al v (view s) (view t) (view u) c.loop-k.k inv.2 inv.1 fits c.args.n c.loop-k-test.true on c.go_on.ensures.long (fits_capacity (view u) u.rows_fit u.grades_fit u.few)
 
-pub returns-in-Overflowed : goal.returns-in-Overflowed
-returns-in-Overflowed g c =
+pub returns-in-Overflowed-clause-run : goal.returns-in-Overflowed-clause-run
+returns-in-Overflowed-clause-run g c =
     let al = g.K.Kind.algebra c.args.kind.now in
     let s = c.args.self.now in
     let v : ℕ = (sizes_of s.phase).individuals in
@@ -38,12 +33,7 @@ returns-in-Overflowed g c =
     let fits = fits_capacity (view t) t.rows_fit t.grades_fit t.few in
     let u = c.go_on.new.self in
     let on = subst (λ (p : Phase). GoesOn al (sizes_of p).individuals (view t) (view u) turn.Overflowed) inv.0.2 c.in-Overflowed.ensures.run in
-    record {
-      same = same_then inv.0 c.go_on.ensures.same;
-      long = c.go_on.ensures.long ∙ inv.1;
-      within = omega arith;
-      run = so_far_full al v (view s) (view t) (view u) c.loop-k.k inv.2 inv.1 fits c.args.n c.loop-k-test.true on c.go_on.ensures.long;
-    }
+    so_far_full al v (view s) (view t) (view u) c.loop-k.k inv.2 inv.1 fits c.args.n c.loop-k-test.true on c.go_on.ensures.long
 
 pub loop-k-preserved : goal.loop-k-preserved
 loop-k-preserved g c =
@@ -57,8 +47,8 @@ loop-k-preserved g c =
     let on = subst (λ (p : Phase). GoesOn al (sizes_of p).individuals (view t) (view u) turn.Settled) inv.0.2 c.in-Settled.ensures.run in
     (same_then inv.0 c.go_on.ensures.same, c.go_on.ensures.long ∙ inv.1, so_far_more al v (view s) (view t) (view u) c.loop-k.k inv.2 inv.1 fits on)
 
-pub returns : goal.returns
-returns g c =
+pub returns-clause-run : goal.returns-clause-run
+returns-clause-run g c =
     let al = g.K.Kind.algebra c.args.kind.now in
     let s = c.args.self.now in
     let v : ℕ = (sizes_of s.phase).individuals in
@@ -67,9 +57,4 @@ returns g c =
     let fits = fits_capacity (view t) t.rows_fit t.grades_fit t.few in
     let all : c.loop-k.k ≡ c.args.n = omega arith in
     let far = subst (λ (k : ℕ). SoFar al v (view s) (view t) k) all inv.2 in
-    record {
-      same = inv.0;
-      long = inv.1;
-      within = omega arith;
-      run = so_far_done al v (view s) (view t) c.args.n c.stand.result far inv.1 fits (t.settled_fit, t.turns) t.grades_fit c.stand.ensures;
-    }
+    so_far_done al v (view s) (view t) c.args.n c.stand.result far inv.1 fits (t.settled_fit, t.turns) t.grades_fit c.stand.ensures

@@ -1,36 +1,27 @@
-use Rattle.std.proofs.Common.{ℕ, true, false, refl, subst, rules}
+use Rattle.std.proofs.Common.{ℕ, true, false, refl, subst}
 use Rattle.saturation.specs.declared.turn.Turn.TheVariants.{Settled, Overflowed}
 use Rattle.saturation.specs.Tables.{view}
 use Rattle.saturation.specs.Turns.{Turned}
-use Rattle.saturation.proofs.Sameness.{same_then}
 use Rattle.saturation.proofs.Taking.{took_turn, turns_out}
 use Rattle.saturation.proofs.table.Table.settle_one.Goals as goal
 
-pub returns-then-newest-self : goal.returns-then-newest-self
-returns-then-newest-self g c =
+pub returns-then-newest-self-clause-state : goal.returns-then-newest-self-clause-state
+returns-then-newest-self-clause-state g c =
     let t = c.args.self.now in
-    record { same = search rules; state = (refl, turns_out (view t) (t.settled_fit, t.turns) c.if-newest-self.true) }
+    (refl, turns_out (view t) (t.settled_fit, t.turns) c.if-newest-self.true)
 
-pub returns-in-Ok : goal.returns-in-Ok
-returns-in-Ok g c =
+pub returns-in-Ok-clause-state : goal.returns-in-Ok-clause-state
+returns-in-Ok-clause-state g c =
     let k = c.args.kind.now in
     let t = c.args.self.now in
     let m = c.settle_row.new.self in
-    record {
-      same = same_then c.settle_row.ensures.same c.search.ensures.same;
-      state =
-          subst (λ (n : ℕ). Turned (g.K.Kind.algebra k) n (view t) (view c.search.new.self) Settled) c.individuals-individuals.ensures
-          (took_turn (g.K.Kind.algebra k) (g.met.K.Kind.lawful k) c.individuals-individuals.result (view t) (view m) (view c.search.new.self) c.in-Some.i true (t.settled_fit, t.turns) (m.settled_fit, m.turns) t.rows_fit t.grades_fit c.if-newest-self.false c.in-Some.ensures c.settle_row.ensures.state c.in-Ok.ensures.state);
-    }
+    subst (λ (n : ℕ). Turned (g.K.Kind.algebra k) n (view t) (view c.search.new.self) Settled) c.individuals-individuals.ensures
+    (took_turn (g.K.Kind.algebra k) (g.met.K.Kind.lawful k) c.individuals-individuals.result (view t) (view m) (view c.search.new.self) c.in-Some.i true (t.settled_fit, t.turns) (m.settled_fit, m.turns) t.rows_fit t.grades_fit c.if-newest-self.false c.in-Some.ensures c.settle_row.ensures.state c.in-Ok.ensures.state)
 
-pub returns-in-Err : goal.returns-in-Err
-returns-in-Err g c =
+pub returns-in-Err-clause-state : goal.returns-in-Err-clause-state
+returns-in-Err-clause-state g c =
     let k = c.args.kind.now in
     let t = c.args.self.now in
     let m = c.settle_row.new.self in
-    record {
-      same = same_then c.settle_row.ensures.same c.search.ensures.same;
-      state =
-          subst (λ (n : ℕ). Turned (g.K.Kind.algebra k) n (view t) (view c.search.new.self) Overflowed) c.individuals-individuals.ensures
-          (took_turn (g.K.Kind.algebra k) (g.met.K.Kind.lawful k) c.individuals-individuals.result (view t) (view m) (view c.search.new.self) c.in-Some.i false (t.settled_fit, t.turns) (m.settled_fit, m.turns) t.rows_fit t.grades_fit c.if-newest-self.false c.in-Some.ensures c.settle_row.ensures.state c.in-Err.ensures.state);
-    }
+    subst (λ (n : ℕ). Turned (g.K.Kind.algebra k) n (view t) (view c.search.new.self) Overflowed) c.individuals-individuals.ensures
+    (took_turn (g.K.Kind.algebra k) (g.met.K.Kind.lawful k) c.individuals-individuals.result (view t) (view m) (view c.search.new.self) c.in-Some.i false (t.settled_fit, t.turns) (m.settled_fit, m.turns) t.rows_fit t.grades_fit c.if-newest-self.false c.in-Some.ensures c.settle_row.ensures.state c.in-Err.ensures.state)

@@ -1,38 +1,25 @@
 use Rattle.std.proofs.Common.{is_ok}
 use Rattle.standpoint.specs.RuleNumbers.{number_of_rule}
-use Rattle.std.proofs.Common.{◌≡◌, ℕ, ◌+◌, Bool, true, false, List, ap, sym, subst, arith, rules}
+use Rattle.std.proofs.Common.{◌≡◌, ℕ, ◌+◌, Bool, true, false, List, ap, sym, subst}
 use Rattle.std.proofs.lemmas.Result.{err_from_is_err_and}
 use Rattle.saturation.specs.Tables.{view}
 use Rattle.saturation.specs.Places.{Step}
-use Rattle.saturation.specs.Searching.{Went, arranged, SettledPlaces}
+use Rattle.saturation.specs.Searching.{Went, arranged}
 use Rattle.saturation.proofs.Reading.{premises_stand}
 use Rattle.saturation.proofs.Searches.{Below}
 use Rattle.saturation.proofs.Sameness.{same_then}
-use Rattle.saturation.proofs.Enumerating.{Triple, ThirdOf, Using, settled_arranged, in_arranged, went_triple, went_triples, went_never, went_broken}
+use Rattle.saturation.proofs.Enumerating.{Triple, ThirdOf, Using, in_arranged, went_triple, went_never, went_broken}
 use Rattle.saturation.proofs.table.Table.triples.Goals as goal
 
-pub returns-then-not-may_go : goal.returns-then-not-may_go
-returns-then-not-may_go g c =
+pub returns-then-not-may_go-clause-state : goal.returns-then-not-may_go-clause-state
+returns-then-not-may_go-clause-state g c =
     let al = g.K.Kind.algebra c.args.by.now.kind.now in
     let t = c.args.self.now in
     let stands = premises_stand (view t) (t.settled_fit, t.turns) t.grades_fit al.start in
-    record {
-      same = search rules;
-      state = went_never al c.args.by.now.individuals (view t) (number_of_rule c.args.by.now.rule) c.args.position c.args.newest c.args.i al.start stands c.requires.0 c.requires.1 (c.may_go.ensures c.if-not-may_go.true);
-    }
+    went_never al c.args.by.now.individuals (view t) (number_of_rule c.args.by.now.rule) c.args.position c.args.newest c.args.i al.start stands c.requires.0 c.requires.1 (c.may_go.ensures c.if-not-may_go.true)
 
-pub attempt-requires : goal.attempt-requires
-attempt-requires g c =
-    let settled = c.loop-j.self.settled in
-    let same = c.loop-j.invariant.1.grown.settled in
-    let a = c.requires.0 in
-    let b = c.requires.1 in
-    let al = g.K.Kind.algebra c.args.by.now.kind.now in
-    let below = settled_arranged al c.args.by.now.individuals settled c.args.position c.args.newest c.args.i c.loop-j.j (omega arith) (omega arith) (omega arith) in
-    subst (SettledPlaces settled) (sym c.arrange.ensures) below
-
-pub returns-in_err-attempt : goal.returns-in_err-attempt
-returns-in_err-attempt g c =
+pub returns-in_err-attempt-clause-state : goal.returns-in_err-attempt-clause-state
+returns-in_err-attempt-clause-state g c =
     let al = g.K.Kind.algebra c.args.by.now.kind.now in
     let v = c.args.by.now.individuals in
     let rule = number_of_rule c.args.by.now.rule in
@@ -48,11 +35,8 @@ returns-in_err-attempt g c =
     let here = subst (λ (ks : List ℕ). Went al v m u (λ l. Step al v l rule ks) (λ l. Step al v l rule ks) (is_ok c.attempt.result)) c.arrange.ensures c.attempt.ensures.state in
     let off : is_ok c.attempt.result ≡ false = ap is_ok c.in_err-attempt.was in
     let out : is_ok c.from_residual.result ≡ false = ap is_ok (err_from_is_err_and c.from_residual.result c.from_residual.ensures.1).1 in
-    record {
-      same = same_then inv.0 c.attempt.ensures.same;
-      state = subst (Went al v (view t) u All (Using al v n)) (sym out)
-          (went_broken al v (view t) m u n rule (arranged q n i j) (Below (Triple al v rule q n i) j) All (is_ok c.attempt.result) (t.settled_fit, t.turns) off (in_arranged al v q n i j) inv.1 here);
-    }
+    subst (Went al v (view t) u All (Using al v n)) (sym out)
+    (went_broken al v (view t) m u n rule (arranged q n i j) (Below (Triple al v rule q n i) j) All (is_ok c.attempt.result) (t.settled_fit, t.turns) off (in_arranged al v q n i j) inv.1 here)
 
 pub loop-j-preserved : goal.loop-j-preserved
 loop-j-preserved g c =
@@ -69,13 +53,3 @@ loop-j-preserved g c =
     let made = subst (λ (b : Bool). Went al v (view t) u (Below (Triple al v (number_of_rule c.args.by.now.rule) c.args.position n c.args.i) (c.loop-j.j + 1)) (Using al v n) b) on
     (went_triple al v (view t) m u (number_of_rule c.args.by.now.rule) c.args.position n c.args.i c.loop-j.j (is_ok c.attempt.result) (t.settled_fit, t.turns) inv.1 here) in
     (same_then inv.0 one, made)
-
-pub returns : goal.returns
-returns g c =
-    let al = g.K.Kind.algebra c.args.by.now.kind.now in
-    let t = c.args.self.now in
-    let inv = c.loop-j.invariant in
-    record {
-      same = inv.0;
-      state = went_triples al c.args.by.now.individuals (view t) (view c.loop-j.self) (number_of_rule c.args.by.now.rule) c.args.position c.args.newest c.args.i c.loop-j.j c.loop-j-test.false inv.1;
-    }
