@@ -35,12 +35,9 @@ module _ {G : Type 0} where
   pub refuses_unfound : (s : Table G) (x : Statement) (old new : List (Step G)) (r : Result ℕ Refusal) (e : Refusal) → r ≡ Err e → new ≡ old → NotFound s x e → Explains s x old new r
   refuses_unfound s x old new r e is same why = subst (Explains s x old new) (sym is) (same, not_found why)
 
-  pub explains : (s h : Table G) (x : Statement) (t : ℕ) (old new : List (Step G)) (r : Result ℕ Refusal) → view h ≡ view s → Asked s x → FirstSettled (view s) x t → Writes (view h) t old new r → Explains s x old new r
-  explains s h x t old new r e asked at w = go r (subst (λ (v : State G). Writes v t old new r) e w)
-    where
-      go : (r : Result ℕ Refusal) → Writes (view s) t old new r → Explains s x old new r
-      go (Ok count) v = (asked, (t, at, v))
-      go (Err why) v = (v.0, not_written asked t at v.1)
+  pub explains : (s : Table G) (x : Statement) (t : ℕ) (old new : List (Step G)) (r : Result ℕ Refusal) → Asked s x → FirstSettled (view s) x t → Writes (view s) t old new r → Explains s x old new r
+  explains s x t old new (Ok count) asked at v = (asked, (t, at, v))
+  explains s x t old new (Err why) asked at v = (v.0, not_written asked t at v.1)
 
   -- with all that is needed marked, the answer goes by the room in the buffer
   module _ (s u : State G) (t : ℕ) (p : MarksDown s u t (t + 1)) where
@@ -57,13 +54,12 @@ module _ {G : Type 0} where
       written = written_same s u p.but_marks (mark_at u) (t + 1) old new w;
     }
 
-  -- not begun, then marked, then cleared
-  module _ (a h l u : Table G) (begun : is_begun a.phase ≡ true) (held : view h ≡ view a) (marked : ButMarks (view h) (view l)) (cleared : ButMarks (view l) (view u)) (clean : Clean (view u)) where
+  -- marked, then cleared
+  module _ (a l u : Table G) (begun : is_begun a.phase ≡ true) (marked : ButMarks (view a) (view l)) (cleared : ButMarks (view l) (view u)) (clean : Clean (view u)) where
     pub rows_as_before : view u ≡ view a
     rows_as_before =
         let f = a.settled_fit in
-        let all = but_marks_trans (view a) (view l) (view u) (subst (λ (v : State G). ButMarks v (view l)) held marked) cleared in
-        clean_same (view a) (view u) all (λ k lt. a.marks begun k (omega arith)) clean
+        clean_same (view a) (view u) (but_marks_trans (view a) (view l) (view u) marked cleared) (λ k lt. a.marks begun k (omega arith)) clean
 
     pub unmarked : Unmarked u.rows.now u.len (is_begun a.phase)
     unmarked = subst (λ (s : State G). Unmarked s.rows s.len (is_begun a.phase)) (sym rows_as_before) a.marks

@@ -1,5 +1,5 @@
 -- Two states of a table that differ in marks alone.
-use Rattle.std.proofs.Common.{◌≡◌, ℕ, ◌+◌, ◌<◌, ◌≤◌, Bool, false, List, length, get_or, sym, refl, ap, ◌∙◌, subst, ⊎_elim, arith, length-set}
+use Rattle.std.proofs.Common.{◌≡◌, ℕ, ◌<◌, ◌≤◌, Bool, List, length, get_or, sym, refl, ap, ◌∙◌, subst, ⊎_elim, arith, length-set}
 use Rattle.std.proofs.lemmas.List.{get_or-set_same, get_or-set_other, ext_get_or}
 use Rattle.standpoint.specs.declared.statement.Statement.{Statement}
 use Rattle.standpoint.specs.declared.step.Step.{Step}
@@ -7,11 +7,9 @@ use Rattle.standpoint.specs.Steps.{given}
 use Rattle.saturation.specs.declared.row.Kept.{Kept}
 use Rattle.saturation.specs.declared.row.Row.{Row}
 use Rattle.saturation.specs.Rows.{no_row}
-use Rattle.saturation.specs.declared.table.Table.{Table}
-use Rattle.saturation.specs.Tables.{State, view, Same, row_at, statement_at, turn_at}
+use Rattle.saturation.specs.Tables.{State, row_at, statement_at, turn_at}
 use Rattle.saturation.specs.Searching.{Premise}
 use Rattle.saturation.proofs.Offers.{equal_or, below_or}
-use Rattle.saturation.proofs.Sameness.{same_then}
 use Rattle.explanation.specs.Needed.{kept_at, Names, Rests, rank, Renumbers, Written}
 use Rattle.explanation.specs.Marks.{mark_at, remarked, with_mark, Clean, ButMarks}
 

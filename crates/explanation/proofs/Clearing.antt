@@ -1,12 +1,12 @@
 -- Rows whose marks below a place are taken back.
-use Rattle.std.proofs.Common.{◌≡◌, ℕ, ◌-◌, ◌+◌, ◌<◌, ◌≤◌, false, List, ◌++◌, length, map, take, drop, get_or, sym, refl, ap, ◌∙◌, subst, ⊎_elim, arith, length-append}
+use Rattle.std.proofs.Common.{◌≡◌, ℕ, ◌-◌, ◌+◌, ◌<◌, ◌≤◌, false, List, ◌++◌, length, map, take, drop, get_or, sym, ap, ◌∙◌, subst, ⊎_elim, arith, length-append}
 use Rattle.std.proofs.lemmas.List.{get_or_append_left, get_or-append_right, get_or-map, get_or-take, get_or-drop, length-map, length-take-le, length-drop}
 use Rattle.saturation.specs.declared.row.Row.{Row}
 use Rattle.saturation.specs.Rows.{no_row, TurnsWithin}
 use Rattle.saturation.specs.declared.table.Table.{Table}
 use Rattle.saturation.specs.Tables.{State, row_at}
 use Rattle.saturation.proofs.Offers.{below_or}
-use Rattle.explanation.specs.Marks.{mark_at, remarked, Clean, ButMarks}
+use Rattle.explanation.specs.Marks.{remarked, Clean, ButMarks}
 
 pub settled_rows : {G : Type 0} (t : Table G) → t.settled ≤ length t.rows.now
 settled_rows t = let f = t.settled_fit in let g = t.rows_fit in omega arith

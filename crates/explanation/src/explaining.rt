@@ -10,7 +10,7 @@ ghost use Rattle.reasoner.specs.Calls.{Unchanged};
 ghost use Rattle.explanation.specs.Marks.{ButMarks, Clean};
 ghost use Rattle.explanation.specs.Explaining.{Explains, ExplainsAs, Finds, SettledAs, Writes};
 
-use crate::marks::{clear, mark_needed, set_phase};
+use crate::marks::{clear, mark_needed};
 use crate::writing::{count_marked, write_marked};
 use saturation::{Phase, Table};
 use standpoint::{Refusal, Statement, Step};
@@ -30,10 +30,10 @@ pub fn explain<G: Clone + Copy + Drop>(
     let t = settling_place(reasoner, statement)?;
     // Marks may stand only in a reasoner that is not begun.
     let phase = reasoner.phase;
-    set_phase(reasoner, Phase::Idle);
+    reasoner.phase = Phase::Idle;
     let written = write_needed(reasoner, t, buffer);
     clear(reasoner);
-    set_phase(reasoner, phase);
+    reasoner.phase = phase;
     written
 }
 

@@ -1,23 +1,12 @@
 // Marks at settling places. They may stand only while the reasoner counts as not begun.
 ghost use Rattle.std.specs.Prelude.{◌≡◌, ◌+◌, ◌<◌, ◌≤◌, true, false, map};
 ghost use Rattle.saturation.specs.Phases.{is_begun};
-ghost use Rattle.saturation.specs.Rows.{Unmarked};
-ghost use Rattle.saturation.specs.Tables.{view, Same, OverSame};
+ghost use Rattle.saturation.specs.Tables.{view, Same};
 ghost use Rattle.explanation.specs.Needed.{kept_at, Rests};
 ghost use Rattle.explanation.specs.Marks.{mark_at, remarked, with_mark, Clean, ButMarks, AddsMarks, RestsEarlier, MarksNeeded};
 
-use saturation::{Kept, Phase, Row, Table};
+use saturation::{Kept, Row, Table};
 use standpoint::Refusal;
-
-// A reasoner counts as begun only without marks.
-pub(crate) fn set_phase<G: Copy>(reasoner: &mut Table<'_, G>, phase: Phase)
-    requires { Unmarked reasoner.old.rows.now reasoner.old.len (is_begun phase) }
-    ensures memory { OverSame reasoner.old reasoner.new }
-    ensures state { view reasoner.new ≡ view reasoner.old }
-    ensures phase { reasoner.new.phase ≡ phase }
-{
-    reasoner.phase = phase;
-}
 
 pub(crate) fn marked<G: Copy>(reasoner: &Table<'_, G>, k: usize) -> bool
     requires { k < reasoner.now.settled }
@@ -77,8 +66,8 @@ fn mark_place<G: Copy>(reasoner: &mut Table<'_, G>, place: usize)
     ensures same { Same reasoner.old reasoner.new }
     ensures state { AddsMarks (view reasoner.old) (view reasoner.new) (λ j. place ≡ j + 1) }
 {
-    if place != 0 {
-        set_mark(reasoner, place - 1, true);
+    if let Some(k) = place.checked_sub(1) {
+        set_mark(reasoner, k, true);
     }
 }
 

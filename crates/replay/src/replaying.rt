@@ -50,6 +50,7 @@ fn perform_all<K: Kind>(
 {
     let count = calls.len().min(outcomes.len());
     let mut written = 0;
+    // By places: what is proved of each call speaks of its place, which a `zip` does not tell.
     for i in 0..count {
         let outcome = perform_behind(reasoner, kind, calls[i], steps, written);
         written += steps_of(outcome);
@@ -75,6 +76,7 @@ fn perform_behind<K: Kind>(
     perform(reasoner, kind, call, &mut steps[written..])
 }
 
+// A write of its own: among what the loop knows, no bound is found for a place of an outcome of any size.
 fn put<T: Drop>(places: &mut [T], i: usize, value: T)
     requires { i < length places.old }
     ensures { places.new ≡ slice_set places.old i value }

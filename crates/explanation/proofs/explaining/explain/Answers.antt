@@ -11,22 +11,20 @@ returns-in_err-t g c =
     let answer = refuses_unfound c.args.reasoner.now c.args.statement _ _ c.from_residual.result c.in_err-t.field-0.0 (p.1 ∙ ap Err p.2) (search rules) c.in_err-t.ensures in
     record { memory = (refl, refl); unchanged = (refl, refl); answer = answer; meaning = λ a laws b l h. means a laws b l c.args.reasoner.now (held h) c.args.statement _ _ c.from_residual.result answer }
 
-pub set_phase-requires-2 : goal.set_phase-requires-2
-set_phase-requires-2 g c = unmarked c.args.reasoner.now c.set_phase.new.reasoner c.write_needed-written.new.reasoner c.clear.new.reasoner c.in_ok-t.ensures.0.begun c.set_phase.ensures.state c.write_needed-written.ensures.state c.clear.ensures.state c.clear.ensures.clean
+pub invariant_of-reasoner-2-clause-marks : goal.invariant_of-reasoner-2-clause-marks
+invariant_of-reasoner-2-clause-marks g c =
+    unmarked c.args.reasoner.now c.write_needed-written.new.reasoner c.clear.new.reasoner c.in_ok-t.ensures.0.begun c.write_needed-written.ensures.state c.clear.ensures.state c.clear.ensures.clean
 
 pub returns : goal.returns
 returns g c =
     let a = c.args.reasoner.now in
     let found = c.in_ok-t.ensures in
-    let one = c.set_phase.ensures in
     let two = c.write_needed-written.ensures in
     let three = c.clear.ensures in
-    let four = c.set_phase-2.ensures in
-    let rows = rows_as_before a c.set_phase.new.reasoner c.write_needed-written.new.reasoner c.clear.new.reasoner found.0.begun one.state two.state three.state three.clean in
-    let answer = explains a c.set_phase.new.reasoner c.args.statement c.in_ok-t.t _ _ c.write_needed-written.result one.state found.0 found.1 two.answer in
+    let answer = explains a c.args.statement c.in_ok-t.t _ _ c.write_needed-written.result found.0 found.1 two.answer in
     record {
-      memory = (four.memory.0 ∙ three.same.0 ∙ two.same.0 ∙ one.memory.0, four.memory.1 ∙ three.same.1 ∙ two.same.1 ∙ one.memory.1);
-      unchanged = (four.state ∙ rows, four.phase);
+      memory = (three.same.0 ∙ two.same.0, three.same.1 ∙ two.same.1);
+      unchanged = (rows_as_before a c.write_needed-written.new.reasoner c.clear.new.reasoner found.0.begun two.state three.state three.clean, refl);
       answer = answer;
       meaning = λ al laws b l h. means al laws b l a (held h) c.args.statement _ _ c.write_needed-written.result answer;
     }

@@ -1,6 +1,5 @@
-use Rattle.std.proofs.Common.{◌≤◌, length, refl, arith}
+use Rattle.std.proofs.Common.{refl, arith}
 use borrow.Author.Tests.{both_ways}
-use Rattle.saturation.specs.declared.table.Table.{Table}
 use Rattle.saturation.specs.Tables.{view}
 use Rattle.explanation.proofs.Clearing.{settled_rows, cleared_long, cleared_turns, cleared_but, cleared_clean}
 use Rattle.explanation.proofs.marks.clear.Goals as goal

@@ -1,4 +1,4 @@
-use Rattle.std.proofs.Common.{◌≡◌, ℕ, ◌+◌, ◌<◌, ◌≤◌, ◌≢◌, false, length, map, get_or, sym, refl, ap, ◌∙◌, arith, below_more, get_or-set_other, get_or-set_same}
+use Rattle.std.proofs.Common.{◌<◌, false, length, map, get_or, sym, ap, ◌∙◌, arith, below_more, get_or-set_other, get_or-set_same}
 use Rattle.std.proofs.lemmas.List.{ext_get_or, get_or-map, length-map}
 use Rattle.saturation.specs.declared.row.Row.{Row}
 use Rattle.saturation.specs.Rows.{no_row}
@@ -13,7 +13,7 @@ loop-row-preserved c =
     let lt : i < length items = let h = c.loop-row-test.true in omega arith in
     let bare : Row = remarked (get_or items i no_row) false in (
       below_more _ _ (λ k h. get_or-set_other items i k bare no_row (λ e. let z : ⊥ = omega arith in z) ∙ c.loop-row.invariant.0 k h)
-      (get_or-set_same items i bare no_row lt ∙ ap (λ (r : Row). remarked r false) (c.loop-row.invariant.1 i (omega arith))),
+          (get_or-set_same items i bare no_row lt ∙ ap (λ (r : Row). remarked r false) (c.loop-row.invariant.1 i (omega arith))),
       λ k h. get_or-set_other items i k bare no_row (λ e. let z : ⊥ = omega arith in z) ∙ c.loop-row.invariant.1 k (omega arith),
     )
 
