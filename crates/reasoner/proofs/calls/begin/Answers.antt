@@ -37,8 +37,8 @@ loop-k-preserved g c =
           subst P (sym w.reasoner-is) (inv.0, inv.1, filled_skip al n (view c.loop-k.reasoner) k inv.2 none)
     ]
 
-pub returns : goal.returns
-returns g c =
+pub returns-clause-answer : goal.returns-clause-answer
+returns-clause-answer g c =
     let al = g.K.Kind.algebra c.args.kind.now in
     let n = c.args.sizes in
     let inv = c.loop-k.invariant in
@@ -47,8 +47,4 @@ returns g c =
     let all : length (tautologies n) ≤ c.loop-k.k = let a = c.loop-k-test.false in omega arith in
     let enough : length (tautologies n) ≤ capacity (view c.args.reasoner.now) = let a = c.if-capacity-count.false in let b = c.capacity.ensures in omega arith in
     let ranged = c.in_ok-check.ensures in
-    record {
-      memory = (inv.0.0 ∙ begun.memory.0, inv.0.1 ∙ begun.memory.1);
-      long = inv.1 ∙ ap capacity begun.state;
-      answer = (ranged, enough, (inv.0.2 ∙ begun.phase, ranged, filled_holds al n (view c.loop-k.reasoner) c.loop-k.k inv.2 all));
-    }
+    (ranged, enough, (inv.0.2 ∙ begun.phase, ranged, filled_holds al n (view c.loop-k.reasoner) c.loop-k.k inv.2 all))
