@@ -62,6 +62,7 @@ fn agrees<K: StoredKind>(
     }
 }
 
+// The switch of `settled`, with another use: a shared one would need a trait for each use of a kind.
 fn agrees_by_kind(heap: Global, file: &[u8], expected: &[u8]) -> Result<bool, AllocError> {
     match file.get(4).copied() {
         Some(Letter::KIND_BYTE) => agrees(heap, &Letter, file, expected),
