@@ -11,12 +11,9 @@ use Rattle.reasoner.specs.Models.{based, empty_base, accepting, StandsFor}
 use Rattle.reasoner.specs.Calls.{Unchanged, Adds, AddRefused, before_begin, after_settle, misfit, individual, no_row}
 use Rattle.blockfile.specs.declared.fault.RecordFault.{RecordFault}
 use Rattle.blockfile.specs.declared.fault.RecordFault.TheVariants.{Add}
-use Rattle.blockfile.specs.declared.fault.BlockFault.{BlockFault}
-use Rattle.blockfile.specs.declared.fault.BlockFault.TheVariants.{Sum, Layout, Begin, InRecord}
-use Rattle.blockfile.specs.declared.fault.LoadFault.TheVariants.{InBlock}
 use Rattle.blockfile.specs.Codes.{or_no_grade}
-use Rattle.blockfile.specs.Layout.{block_of, count_in, code_of, statement_in, sizes_in, SoundBlock, SoundBelow, Whole}
-use Rattle.blockfile.specs.Loads.{accepting_on, accepting_all, Reads, reads_record, reads_block, AcceptsBefore, block_at, place_at, StoppedAt, RecordLoaded, BlockLoaded, Sized, Loaded}
+use Rattle.blockfile.specs.Layout.{block_of, count_in, code_of, statement_in, sizes_in, SoundBlock}
+use Rattle.blockfile.specs.Loads.{accepting_on, accepting_all, Reads, reads_record, reads_block, AcceptsBefore, RecordLoaded}
 
 pub over_then : {G : Type 0} (s t u : Table G) → OverSame s t → OverSame t u → OverSame s u
 over_then s t u x y = (y.0 ∙ x.0, y.1 ∙ x.1)
@@ -86,31 +83,3 @@ module _ {G : Type 0} where
     -- the records of a block are those before the next one
     pub accepts_block : (b p : ℕ) (t : Table G) → p ≡ count_in file b → AcceptsBefore al decoded file b p t → AcceptsBefore al decoded file (b + 1) 0 t
     accepts_block b p t e h = (h.0, reads_block (subst (λ n. Reads decoded file b n h.0) e h.1), h.2)
-
-    -- the record that is refused stops the block
-    pub record_stops : (b p : ℕ) (s t : Table G) (f : RecordFault) → p < count_in file b → AcceptsBefore al decoded file b p s →
-        RecordLoaded al decoded file b p s t (Err f) → (block_at f ≡ b) × StoppedAt al decoded file t f
-    record_stops b p s t f lt before h =
-        let same = h.0 in
-        let block_is = sym h.1 in
-        let place_is = sym h.2 in (
-          h.1,
-          record {
-            there = subst (λ n. place_at f < count_in file n) block_is (subst (λ n. n < count_in file b) place_is lt);
-            before = subst (λ n. AcceptsBefore al decoded file n (place_at f) t) block_is (subst (λ n. AcceptsBefore al decoded file b n t) place_is (accepts_same b p s t same before));
-            refused = h.3;
-          },
-        )
-
-    module _ (letter n : ℕ) (sound : Whole file n × SoundBelow letter file n) (s t : Table G) where
-      pub sizes_stop : (f : BlockFault) → Sized al file s t (Err f) → Loaded al letter decoded file s t (Err (InBlock f))
-      sizes_stop (Sum block) h = absurd h
-      sizes_stop (Layout block) h = absurd h
-      sizes_stop (Begin why) h = ((n, sound), h)
-      sizes_stop (InRecord f) h = absurd h
-
-      pub block_stops : (b : ℕ) (f : BlockFault) → b < n → BlockLoaded al decoded file b t (Err f) → Loaded al letter decoded file s t (Err (InBlock f))
-      block_stops b (Sum block) lt h = absurd h
-      block_stops b (Layout block) lt h = absurd h
-      block_stops b (Begin why) lt h = absurd h
-      block_stops b (InRecord f) lt h = (n, sound, subst (λ k. k < n) (sym h.0) lt, h.1)

@@ -1,11 +1,11 @@
 -- A file with a fault is not sound.
-use Rattle.std.proofs.Common.{ℕ, ◌<◌, List, Err, inl, inr, arith}
+use Rattle.std.proofs.Common.{ℕ, ◌<◌, List, Err, inl, arith}
 use Rattle.blockfile.specs.declared.fault.BlockFault.{BlockFault}
 use Rattle.blockfile.specs.declared.fault.BlockFault.TheVariants.{Sum, Layout, Begin, InRecord}
 use Rattle.blockfile.specs.declared.fault.LoadFault.{LoadFault}
 use Rattle.blockfile.specs.declared.fault.LoadFault.TheVariants.{Length, InBlock}
-use Rattle.blockfile.specs.Layout.{Sound, SoundBlock, SoundBelow, Whole, block_of}
-use Rattle.blockfile.specs.Faults.{BlockFaulty, BlocksChecked, SizesFaulty, FileChecked}
+use Rattle.blockfile.specs.Layout.{Sound, SoundBlock, block_of}
+use Rattle.blockfile.specs.Faults.{BlockFaulty, BlocksChecked, FileChecked}
 
 -- what a fault says of the check of the whole file
 abbrev pub FaultyFile : ℕ → List ℕ → LoadFault → Type 0
@@ -26,6 +26,3 @@ module _ (letter : ℕ) (file : List ℕ) where
         let there : h.number < s.blocks = omega (arith, h.whole.long, s.whole.long, h.there) in
         faulty_unsound h.number (block_of file h.number) f h.here (s.each h.number there),
   )
-
-  pub faulty_sizes : (n : ℕ) (f : BlockFault) → Whole file n → SoundBelow letter file n → SizesFaulty file f → FaultyFile letter file (InBlock f)
-  faulty_sizes n f whole each h = (inr ((n, (whole, each)), h), λ s. h.1 s.sizes)

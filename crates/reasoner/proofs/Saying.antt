@@ -1,6 +1,5 @@
 -- What the rows tell of a statement, and of how the run stands.
 use Rattle.std.proofs.Common.{◌≡◌, ℕ, ◌<◌, ◌≤◌, Bool, true, false, cond, leb, ◌⊎◌, get_or, Some, None, Err, Result, sym, ap, ◌∙◌, subst, ⊎_elim, arith}
-use borrow.Author.Tests.{both_ways}
 use Rattle.std.proofs.lemmas.Bool.Decides.{nat_tests}
 use Rattle.standpoint.specs.declared.refusal.Refusal.{Refusal}
 use Rattle.standpoint.specs.declared.refusal.Refusal.TheVariants.{NotBegun}
@@ -16,7 +15,7 @@ use Rattle.runs.proofs.Best.{settled_is_best, none_is_exact}
 use Rattle.saturation.specs.declared.table.Table.{Table}
 use Rattle.standpoint.specs.declared.sizes.Sizes.{Sizes}
 use Rattle.saturation.specs.declared.phase.Phase.TheVariants as phase
-use Rattle.saturation.specs.Phases.{is_begun, stands_full}
+use Rattle.saturation.specs.Phases.{is_begun}
 use Rattle.saturation.specs.Tables.{State, view, capacity, statement_at, turn_at, OpenAt}
 use Rattle.saturation.specs.Offering.{Apart}
 use Rattle.saturation.specs.Searching.{Lists}
@@ -90,12 +89,6 @@ other_room r m n is other =
     (below_or n m)
 
 module _ {G : Type 0} (a : Algebra G) (b : Base G) (t : Table G) where
-  -- a run that stands full does not stand ended
-  pub full_not_ended : {l : Settled G} (n : Sizes) → t.phase ≡ phase.Full n → Holding a b t l → Stands a b (capacity (view t)) l Ended → ⊥
-  full_not_ended n full (taking (is, range, h)) ended = both_ways _ (ap stands_full is) (ap stands_full full)
-  full_not_ended n full (going (is, range, h)) ended = both_ways _ (ap stands_full is) (ap stands_full full)
-  full_not_ended n full (standing (is, range, h)) ended = ended.0 h.full
-
   -- every row is settled: the run stands ended
   pub out_ended : {l : Settled G} → ((n : Sizes) → t.phase ≡ phase.Full n → ⊥) → t.len ≤ t.settled → Holding a b t l → Stands a b (capacity (view t)) l Ended
   out_ended free out (taking (is, range, h)) = (not_full a b _ (view t) h (few_rows t), all_closed a b _ (view t) h (fit_of t) out)

@@ -84,14 +84,6 @@ module _ {G : Type 0} (al : Algebra G) (v : ℕ) where
       went_more al v s t u (Triple rule position n i) (Using n) j r fit x
       (went_as al v t u _ (Triple rule position n i j) _ (Using n) r (λ l is o w. w) (λ l is o w. step_uses n rule (arranged position n i j) l o (in_arranged position n i j) w) y)
 
-  -- all third premises
-  pub went_triples : (s t : State G) (rule : ℕ) (position : Position) (n i m : ℕ) → s.settled ≤ m →
-      Went al v s t (Below (Triple rule position n i) m) (Using n) true →
-      Went al v s t (λ l. Triples al v rule position n i (length l) l) (Using n) true
-  went_triples s t rule position n i m end x =
-      went_as al v s t (Below (Triple rule position n i) m) (λ l. Triples al v rule position n i (length l) l) (Using n) (Using n) true
-      (λ l is o b. let lg = is.long in let h = b.1 in (b.0, omega arith, b.2)) (λ l is o w. w) x
-
   statements_arranged : (s : State G) (d : G) (position : Position) (n i j : ℕ) →
       statements_of (premises_in s d (arranged position n i j)) ≡ arranged position (statement_at s (turn_at s n)) (statement_at s (turn_at s i)) (statement_at s (turn_at s j))
   statements_arranged s d First n i j = refl
@@ -202,10 +194,6 @@ module _ {G : Type 0} (al : Algebra G) (v : ℕ) where
   -- what a rule gives around n and all that is settled
   abbrev pub Ruled : ℕ → ℕ → Family G
   Ruled n rule l o = (1 ≤ rule) × Below (Around al v rule n) (length l) l o
-
-  -- before the first rule nothing is to be offered
-  pub went_first_rule : (s : State G) (n : ℕ) → Went al v s s (Below (Ruled n) 1) (Using n) true
-  went_first_rule s n = went_none al v s (Below (Ruled n) 1) (Using n) (λ l is o b. let h = b.1 in let low = b.2.0 in omega arith)
 
   -- one rule more
   pub went_rule : (s t u : State G) (n rule m : ℕ) → Fit s → 1 ≤ rule → t.settled ≤ m → Went al v s t (Below (Ruled n) rule) (Using n) true → Went al v t u (Below (Around al v rule n) m) (Using n) true → Went al v s u (Below (Ruled n) (rule + 1)) (Using n) true

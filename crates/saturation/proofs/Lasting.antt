@@ -8,10 +8,8 @@ use Rattle.runs.specs.Runs.{Settled, Next, Settling, Stands, StandsFull}
 use Rattle.runs.specs.Runs.Settling.{no_more_asked, no_more_to_do, one_more}
 use Rattle.runs.specs.declared.Stand.{Stand}
 use Rattle.runs.specs.declared.Stand.TheVariants.{Open, Ended, Full}
-use Rattle.saturation.specs.declared.turn.Turn.{Turn}
 use Rattle.saturation.specs.declared.turn.Turn.TheVariants as turn
 use Rattle.saturation.specs.Tables.{State, capacity}
-use Rattle.saturation.specs.Turns.{Turned}
 use Rattle.saturation.specs.Saturation.{Holds, HoldsFull, HoldsAs, GoesOn, Settles}
 use Rattle.saturation.proofs.Offers.{below_or}
 use Rattle.saturation.proofs.Lists.{Fit}
@@ -26,12 +24,6 @@ gt_leb m n h = grind (arith, nat_tests)
 -- the taken rows are within the capacity
 pub fits_capacity : {G : Type 0} (s : State G) → s.len ≤ length s.rows → s.len ≤ length s.grades → s.len ≤ 16777215 → s.len ≤ capacity s
 fits_capacity s a b c = omega arith
-
--- a turn leaves as many rows
-pub turned_long : {G : Type 0} (al : Algebra G) (v : ℕ) (s t : State G) (r : Turn) → Turned al v s t r → capacity t ≡ capacity s
-turned_long al v s t turn.Nothing it = ap capacity it.0
-turned_long al v s t turn.Settled it = same_capacity s t it.rows_long it.grades_long
-turned_long al v s t turn.Overflowed it = same_capacity s t it.rows_long it.grades_long
 
 -- what is settled later goes before any settling that goes on from there
 abbrev pub Extends : {G : Type 0} → Algebra G → Base G → ℕ → ℕ → Settled G → Settled G → Type 0

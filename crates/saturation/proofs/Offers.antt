@@ -292,18 +292,6 @@ taken_pushed {G} al l s t false x g room is un absent =
       refused = λ _. (refl, sym room, absent);
     })
 
-pub taken_improved : {G : Type 0} (al : Algebra G) → Laws al → (s t : State G) (i : ℕ) (x : Statement) (g : G) (kept : Kept) → t ≡ improved s i g kept → i < s.len → s.len ≤ length s.rows → s.len ≤ length s.grades → statement_at s i ≡ x → (row_at s i).place ≡ None → ((d : G) → al.no_worse (get_or s.grades i d) g ≡ false) → Taken al s t x g true
-taken_improved {G} al l s t i x g kept is within rows_fit grades_fit same un worse =
-    let rows_in : i < length s.rows = omega arith in
-    let grades_in : i < length s.grades = omega arith in
-    subst (λ (z : State G). Taken al s z x g true) (sym is) (record {
-      grown = improved_grown s i g kept rows_in grades_in un;
-      apart = improved_apart s i g kept rows_in grades_in;
-      only = λ k low h. absurd (let z : ⊥ = omega arith in z);
-      best = λ _. improved_best s i g kept rows_in grades_in al l x within same un worse;
-      refused = λ e. absurd (both_ways true e refl);
-    })
-
 pub taken_left : {G : Type 0} (al : Algebra G) (s : State G) (i : ℕ) (x : Statement) (g : G) → i < s.len → statement_at s i ≡ x → ((row_at s i).place ≡ None → (d : G) → al.no_worse (get_or s.grades i d) g ≡ true) → Taken al s s x g true
 taken_left al s i x g within is good = record {
   grown = grown_refl s;

@@ -111,9 +111,6 @@ module _ {G : Type 0} (al : Algebra G) where
 
     -- one attempt: the rule over what stands at these places
     module _ (s : State G) (rule : ℕ) (places : List ℕ) (ps : List (Statement × G)) (stands : (l : List (Statement × G)) → Lists s l → StandAt l places ps) where
-      Tried : Family G
-      Tried l o = Step al n l rule places o
-
       pub attempt_none : ((x : Statement) → Rule n rule (statements_of ps) x → ⊥) → Went al n s s (λ l. Step al n l rule places) (λ l. Step al n l rule places) true
       attempt_none none = went_none s _ _ (λ l is o a.
           let e = stand_same l places a.premises ps a.stand (stands l is) in

@@ -28,9 +28,6 @@ module _ (n : Sizes) where
   abbrev within_tops : List Statement
   within_tops = map (λ c. nested_inclusion 0 0 0 c 0) (range_with_len 1 (n.concepts - 1))
 
-  abbrev roles_within : List Statement
-  roles_within = map (λ r. role_inclusion 0 r r) (range_with_len 0 n.roles)
-
   listed_sound : (x : Statement) → In (tautologies n) x → Tautology n x
   listed_sound x m = elim (in_either all_sharper _ x m) [
     | inl k ↦ let w = of_stretch _ 0 n.standpoints x k in subst (Tautology n) w.3 (sharper_than_all (omega (arith, w.2)))

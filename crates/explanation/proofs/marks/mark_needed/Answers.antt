@@ -1,20 +1,19 @@
 use Rattle.std.proofs.Common.{◌≡◌, ℕ, ◌+◌, ◌-◌, ◌<◌, sym, refl, ap, subst, arith}
 use Rattle.saturation.specs.declared.table.Table.{Table}
 use Rattle.saturation.specs.Tables.{State}
-use Rattle.saturation.proofs.Sameness.{same_then}
 use Rattle.explanation.proofs.Marking.{Marking, marks_so_far, marking_skip, marking_more, marking_stops}
 use Rattle.explanation.proofs.marks.mark_needed.Goals as goal
 use Rattle.explanation.proofs.marks.mark_needed.Goals.{then-marked+else-not-rests_earlier, else-marked}
 
-pub returns-then-not-rests_earlier : goal.returns-then-not-rests_earlier
-returns-then-not-rests_earlier g c =
+pub returns-then-not-rests_earlier-clause-state : goal.returns-then-not-rests_earlier-clause-state
+returns-then-not-rests_earlier-clause-state g c =
     let set = c.set_mark.ensures in
     let inv = c.loop-k.invariant in
     let t = c.args.t in
     let k = c.loop-k.k in
     let low = c.loop-k.auto.k in
     let stop = marking_stops c.set_mark.new.reasoner c.loop-k.reasoner t (t - k) inv k (omega arith) c.args.reasoner.now c.requires.0 c.requires.2 set.state c.if-marked.ensures c.if-not-rests_earlier.ensures in
-    record { same = same_then set.same inv.0; state = (refl, stop.0, stop.1) }
+    (refl, stop.0, stop.1)
 
 pub loop-k-preserved : goal.loop-k-preserved
 loop-k-preserved g c =
@@ -35,8 +34,8 @@ loop-k-preserved g c =
       | else-marked w ↦ subst more (sym w.reasoner-is) (marking_skip u v t (t - k) c.loop-k.invariant k next w.if-marked.ensures)
     ])
 
-pub returns-after-marked : goal.returns-after-marked
-returns-after-marked g c =
+pub returns-after-marked-clause-state : goal.returns-after-marked-clause-state
+returns-after-marked-clause-state g c =
     let set = c.set_mark.ensures in
     let u = c.set_mark.new.reasoner in
     let v = c.loop-k.reasoner in
@@ -54,4 +53,4 @@ returns-after-marked g c =
           subst more (sym w.reasoner-is) (marking_more u v t (t - k) c.loop-k.invariant k next one.new.reasoner within w.if-marked.ensures w.if-not-rests_earlier.ensures one.ensures.same one.ensures.state)
       | else-marked w ↦ subst more (sym w.reasoner-is) (marking_skip u v t (t - k) c.loop-k.invariant k next w.if-marked.ensures)
     ]) in
-    record { same = same_then set.same all.0; state = marks_so_far u c.if-marked.reasoner t (t + 1) all c.args.reasoner.now c.requires.0 c.requires.2 set.state }
+    marks_so_far u c.if-marked.reasoner t (t + 1) all c.args.reasoner.now c.requires.0 c.requires.2 set.state

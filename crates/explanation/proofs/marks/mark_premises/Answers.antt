@@ -1,8 +1,7 @@
 use Rattle.std.proofs.Common.{refl, ap, ◌∙◌, inl, inr, arith}
 use Rattle.saturation.specs.Phases.{is_begun}
 use Rattle.saturation.specs.Tables.{view}
-use Rattle.saturation.proofs.Sameness.{same_then}
-use Rattle.explanation.proofs.Marking.{place_within, adds_three}
+use Rattle.explanation.proofs.Marking.{place_within}
 use Rattle.explanation.proofs.marks.mark_premises.Goals as goal
 
 pub mark_place-requires : goal.mark_place-requires
@@ -24,13 +23,3 @@ mark_place-requires-3 g c =
     let e = one.state.but_marks.settled in
     let f = two.state.but_marks.settled in
     (omega arith, ap is_begun (two.same.2 ∙ one.same.2) ∙ c.requires.1)
-
-pub returns : goal.returns
-returns g c =
-    let one = c.mark_place.ensures in
-    let two = c.mark_place-2.ensures in
-    let three = c.mark_place-3.ensures in
-    record {
-      same = same_then one.same (same_then two.same three.same);
-      state = adds_three (view c.args.reasoner.now) (view c.mark_place.new.reasoner) (view c.mark_place-2.new.reasoner) (view c.mark_place-3.new.reasoner) c.args.k c.kept_step-kept.result c.kept_step-kept.ensures one.state two.state three.state;
-    }
