@@ -1,4 +1,5 @@
 // Marks at settling places. They may stand only while the reasoner counts as not begun.
+// Functions over the reasoner: a struct that borrowed it would have to say in each method that it borrows the same one.
 ghost use Rattle.std.specs.Prelude.{◌≡◌, ◌+◌, ◌<◌, ◌≤◌, true, false, map};
 ghost use Rattle.saturation.specs.Phases.{is_begun};
 ghost use Rattle.saturation.specs.Tables.{view, Same};
