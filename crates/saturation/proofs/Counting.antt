@@ -8,7 +8,7 @@ use Rattle.runs.specs.Runs.{Settled, Known, Unsettled, AllSettled, StandsFull}
 use Rattle.runs.proofs.Distinct.{in_nth}
 use Rattle.saturation.specs.Tables.{State, row_at, statement_at, turn_at, OpenAt, capacity}
 use Rattle.saturation.specs.Saturation.{Holds}
-use Rattle.saturation.proofs.Offers.{below_or, equal_or, none_or, last_or}
+use Rattle.saturation.proofs.Offers.{below_or, none_or, last_or}
 use Rattle.saturation.proofs.Lists.{Fit}
 use Rattle.saturation.proofs.Pigeons.{pigeon}
 use Rattle.saturation.proofs.Opening.{open_unsettled, open_room}

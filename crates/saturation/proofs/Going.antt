@@ -17,7 +17,7 @@ use Rattle.saturation.specs.Offering.{Apart}
 use Rattle.saturation.specs.Searching.{Lists}
 use Rattle.saturation.specs.Turns.{FirstOffered, TookTurn, Turned}
 use Rattle.saturation.specs.Saturation.{Holds, WentOn}
-use Rattle.saturation.proofs.Offers.{below_or, equal_or, none_or, in_same}
+use Rattle.saturation.proofs.Offers.{below_or, none_or, in_same}
 use Rattle.saturation.proofs.Lists.{in_append_left, in_append_right, in_append_cases}
 use Rattle.saturation.proofs.Stepping.{in_getD, offers_up, offers_down, uses_offers, value_at}
 

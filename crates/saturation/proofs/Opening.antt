@@ -14,7 +14,7 @@ use Rattle.saturation.specs.Offering.{BestOf}
 use Rattle.saturation.specs.Searching.{Lists}
 use Rattle.saturation.specs.Choosing.{Ahead, Chosen}
 use Rattle.saturation.specs.Turns.{FirstOffered}
-use Rattle.saturation.proofs.Offers.{last_or, equal_or, none_or, not_both, same_some, in_same}
+use Rattle.saturation.proofs.Offers.{last_or, none_or, not_both, same_some, in_same}
 use Rattle.saturation.proofs.Lists.{Fit}
 use Rattle.saturation.proofs.Stepping.{in_stands, in_getD}
 use Rattle.saturation.proofs.Pigeons.{pigeon}

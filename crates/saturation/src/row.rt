@@ -18,6 +18,7 @@ impl Kept {
         second: 0,
         third: 0,
     };
+
     pub const TAUTOLOGY: Kept = Kept {
         rule: 24,
         first: 0,
