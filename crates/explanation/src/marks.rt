@@ -1,4 +1,5 @@
 // Marks at settling places. They may stand only while the reasoner counts as not begun.
+// Functions over the reasoner: a struct that borrowed it would have to say in each method that it borrows the same one.
 ghost use Rattle.std.specs.Prelude.{◌≡◌, ◌+◌, ◌<◌, ◌≤◌, true, false, map};
 ghost use Rattle.saturation.specs.Phases.{is_begun};
 ghost use Rattle.saturation.specs.Tables.{view, Same};
@@ -15,12 +16,12 @@ pub(crate) fn marked<G: Copy>(reasoner: &Table<'_, G>, k: usize) -> bool
     reasoner.rows[k].mark
 }
 
-fn set_mark<G: Copy>(reasoner: &mut Table<'_, G>, k: usize, mark: bool)
+fn set_mark<G: Copy>(reasoner: &mut Table<'_, G>, k: usize)
     requires { (k < reasoner.old.settled) × (is_begun reasoner.old.phase ≡ false) }
     ensures same { Same reasoner.old reasoner.new }
-    ensures state { view reasoner.new ≡ with_mark (view reasoner.old) k mark }
+    ensures state { view reasoner.new ≡ with_mark (view reasoner.old) k true }
 {
-    reasoner.rows[k].mark = mark;
+    reasoner.rows[k].mark = true;
 }
 
 // Takes all marks back.
@@ -67,7 +68,7 @@ fn mark_place<G: Copy>(reasoner: &mut Table<'_, G>, place: usize)
     ensures state { AddsMarks (view reasoner.old) (view reasoner.new) (λ j. place ≡ j + 1) }
 {
     if let Some(k) = place.checked_sub(1) {
-        set_mark(reasoner, k, true);
+        set_mark(reasoner, k);
     }
 }
 
@@ -89,7 +90,7 @@ pub(crate) fn mark_needed<G: Copy>(reasoner: &mut Table<'_, G>, t: usize) -> Res
     ensures same { Same reasoner.old reasoner.new }
     ensures state { MarksNeeded (view reasoner.old) (view reasoner.new) t result }
 {
-    set_mark(reasoner, t, true);
+    set_mark(reasoner, t);
     for k in (0..=t).rev() {
         if marked(reasoner, k) {
             if !rests_earlier(reasoner, k) {

@@ -57,6 +57,7 @@ pub(crate) fn write_marked<G: Clone + Copy + Drop>(
     ensures count { result ≡ rank (mark_at (view reasoner.now)) (t + 1) }
     ensures steps { Written (view reasoner.now) (mark_at (view reasoner.now)) (t + 1) buffer.old buffer.new }
 {
+    // The counter is the rank of the next marked step, of which its place is told.
     let mut count = 0;
     for k in 0..t + 1 {
         if marked(reasoner, k) {

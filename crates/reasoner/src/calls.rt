@@ -24,6 +24,7 @@ pub fn begin<K: Kind>(
         return Err(Refusal::TooFewRows);
     }
     reasoner.restart(sizes);
+    // By its index: what a taken tautology changes is told by its place in the list.
     for k in 0..count {
         if let Some(x) = tautology(&sizes, k) {
             take_tautology(reasoner, kind, x);
@@ -90,6 +91,7 @@ pub fn settle<K: Kind>(
     }
     reasoner.seal(false);
     let (count, stand) = reasoner.settle(kind, n);
-    reasoner.seal(matches!(stand, Stand::Full));
+    let full = matches!(stand, Stand::Full);
+    reasoner.seal(full);
     Ok((count, stand))
 }

@@ -1,8 +1,8 @@
 -- What the calls before a place in a list have come to.
 use Rattle.std.specs.Prelude.{ℕ, zero, suc, ◌+◌, List, Ok, Err, Result, slice_index_or}
 use Rattle.standpoint.specs.declared.refusal.Refusal.{Refusal}
-use Rattle.standpoint.specs.declared.sizes.Sizes.{Sizes}
 use Rattle.standpoint.specs.Derivations.{Base}
+use Rattle.saturation.specs.Phases.{no_sizes}
 use Rattle.reasoner.specs.Models.{empty_base, accepting}
 use Rattle.replay.specs.declared.call.Call.{Call}
 use Rattle.replay.specs.declared.call.Call.TheVariants.{Begin, Add, Settle, Ask, Explain}
@@ -22,9 +22,6 @@ pub record Past (G : Type 0) : Type 0 where
 
 abbrev pub past : {G : Type 0} → ℕ → Base G → ℕ → Past G
 past begins base settled = record { begins = begins; base = base; settled = settled }
-
-abbrev pub no_sizes : Sizes
-no_sizes = record { standpoints = 0; concepts = 0; roles = 0; individuals = 0 }
 
 abbrev pub no_past : {G : Type 0} → Past G
 no_past = past 0 (empty_base no_sizes) 0

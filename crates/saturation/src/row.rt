@@ -1,7 +1,7 @@
 // The rows of a table.
 use standpoint::Statement;
 
-// A rule, and the settling places of its premises: numbers from 1, 0 where unused, as in the `Step` that it is written out as.
+// A rule, and the settling places of its premises, from 1; 0 where unused, as in `Step`: it ranks as 0 there, so no case is needed.
 #[derive(Clone, Copy)]
 pub struct Kept {
     // 0 for an accepted statement, 24 for a tautology.

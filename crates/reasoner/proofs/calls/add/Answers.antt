@@ -1,4 +1,4 @@
-use Rattle.std.proofs.Common.{◌≡◌, ℕ, true, Err, refl, sym, ap, ◌∙◌, subst, ⊎_elim, arith}
+use Rattle.std.proofs.Common.{◌≡◌, ℕ, true, Err, refl, sym, ap, ◌∙◌, subst, arith}
 use Rattle.standpoint.specs.declared.sizes.Sizes.{Sizes}
 use Rattle.standpoint.specs.declared.refusal.Refusal.TheVariants.{RowsTaken}
 use Rattle.standpoint.specs.Refusals.{number_of}
@@ -15,7 +15,7 @@ returns-in-Idle-clause-answer g c = ((refl, refl), before_begin (ap is_begun c.i
 
 pub returns-in-Full-clause-answer : goal.returns-in-Full-clause-answer
 returns-in-Full-clause-answer g c =
-    let sealed : is_sealed c.args.reasoner.now.phase ≡ true = ⊎_elim (λ h. ap is_sealed h.1) (λ h. ap is_sealed h.1) c.in-Full.is in
+    let sealed : is_sealed c.args.reasoner.now.phase ≡ true = grind arith in
     ((refl, refl), after_settle sealed, λ b h e. let n : ◌≡◌ {A = ℕ} 6 7 = ap number_of e in absurd (let z : ⊥ = omega arith in z))
 
 pub returns-then-not-fits-clause-answer : goal.returns-then-not-fits-clause-answer
