@@ -26,6 +26,7 @@ pub(crate) fn check_blocks<K: StoredKind>(file: &[u8]) -> Result<u16, LoadFault>
     ensures { BlocksChecked K.StoredKind.KIND_BYTE file.now result }
 {
     let count = count_blocks(file)?;
+    // By number, which stands in the block and is tested there.
     for number in 0..count {
         check_block(Block { file, number }, K::KIND_BYTE)?;
     }
@@ -42,7 +43,7 @@ fn count_blocks(file: &[u8]) -> Result<u16, LoadFault>
     Ok((length / 512) as u16)
 }
 
-// Checks a whole block: its sum first.
+// Checks a whole block: its sum first. The kind is told by its byte, since which kinds there are stays open.
 fn check_block(block: Block<'_>, kind_byte: u8) -> Result<(), BlockFault>
     ensures { let bytes = block_of block.entry.file.now block.entry.number in
         MatchResult result

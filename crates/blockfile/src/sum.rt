@@ -8,6 +8,7 @@ fn weighted_sum(bytes: &[u8]) -> u32
     requires { length bytes.now ≤ 508 }
     ensures { result ≡ weighted 1 bytes.now }
 {
+    // A loop, since each product and the sum so far have a bound of their own.
     let mut sum = 0;
     for (i, byte) in bytes.iter().enumerate() {
         sum += u32::from(*byte) * (i as u32 + 1);

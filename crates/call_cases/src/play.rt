@@ -28,12 +28,7 @@ impl<K: StoredKind + Drop> Play<K> {
     pub(crate) fn new(heap: Global, kind: K) -> Play<K> {
         Play {
             kind,
-            sizes: Sizes {
-                standpoints: 0,
-                concepts: 0,
-                roles: 0,
-                individuals: 0,
-            },
+            sizes: Sizes::default(),
             accepted: Vec::new(heap),
             steps: Vec::new(heap),
         }

@@ -32,6 +32,7 @@ fn after_line<'a, K: StoredKind>(
 
 fn settled_so<K: StoredKind>(reasoner: &Table<'_, K::Grade>, expected: &[u8]) -> bool {
     let mut rest = expected;
+    // A line is asked for by its number.
     for k in 0..=ROWS {
         let Some(after) = after_line::<K>(reasoner, k, rest) else {
             return false;

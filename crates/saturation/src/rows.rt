@@ -59,7 +59,7 @@ impl<'a, G: Copy> Table<'a, G> {
         Some((self.settled_statement(k), self.settled_grade(k)))
     }
 
-    // The k-th settled statement.
+    // The k-th settled statement. Apart from its grade, which is read only where a rule gives something.
     pub(crate) fn settled_statement(&self, k: usize) -> Statement
         requires { k < self.now.settled }
         ensures { result ≡ statement_at (view self.now) (turn_at (view self.now) k) }

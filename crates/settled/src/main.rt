@@ -65,6 +65,7 @@ fn print_settled<K: StoredKind>(
     reasoner: &Table<'_, K::Grade>,
 ) -> Result<(), Stop> {
     let mut out = BufWriter::new(rt.alloc(), rt.stdout())?;
+    // A line is asked for by its number.
     for k in 0..=ROWS {
         if print_line::<K, _>(&mut out, reasoner, k)? == 0 {
             break;

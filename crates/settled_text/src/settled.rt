@@ -8,7 +8,8 @@ use runs::Stand;
 use saturation::{Phase, Table};
 use standpoint::{Refusal, Statement};
 
-// Writes line k of the text, from 0, and answers its length with the line feed, 0 past the last; refuses before begin, and then a buffer that is too short.
+// Writes line k of the text, from 0, and answers its length with the line feed, which is 0 past the last, where nothing is
+// written; refuses before begin, and then a buffer that is too short.
 pub fn settled_line<K: StoredKind>(
     reasoner: &Table<'_, K::Grade>,
     k: usize,

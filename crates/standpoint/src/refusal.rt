@@ -40,7 +40,7 @@ pub enum Refusal {
 }
 
 impl Refusal {
-    // The number by which the refusal is known.
+    // The number by which the refusal is known. A match, since one case carries a place.
     pub fn number(self) -> u8
         ensures { result ≡ number_of self }
     {

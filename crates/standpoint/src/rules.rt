@@ -1,4 +1,4 @@
-// The rules of the calculus.
+// The rules of the calculus. Each has a function of its own, since what it asks of its premises is all that it is.
 ghost use Rattle.std.specs.Prelude.{◌≡◌};
 ghost use Rattle.standpoint.specs.Conclusions.{conclusion};
 ghost use Rattle.standpoint.specs.RuleNumbers.{number_of_rule};
@@ -62,6 +62,8 @@ impl Rule {
         }
     }
 }
+
+// By number, as step lists name rules: every number is answered, whether a rule has it or not.
 
 // How many premises the rule of a number has, 0 if no rule has it.
 pub fn arity(rule: u8) -> u8

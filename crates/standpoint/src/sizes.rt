@@ -6,7 +6,7 @@ ghost use Rattle.standpoint.specs.declared.refusal.Refusal.TheVariants.{SizesOut
 use crate::refusal::Refusal;
 
 // The number of standpoints, concepts, roles and individuals, each sort numbered from 0.
-#[derive(Clone, Copy)]
+#[derive(Clone, Copy, Default)]
 pub struct Sizes {
     // Standpoint 0 is that of all.
     pub standpoints: u16,

@@ -1,4 +1,4 @@
-// The grades of the kinds at hand.
+// The grades of the kinds at hand: types of their own, and not one number type with a bound, since a tally is no odds.
 ghost use Rattle.std.specs.Prelude.{◌≤◌};
 
 // A tally, 0 to 4,294,967,295.
