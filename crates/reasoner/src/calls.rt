@@ -24,7 +24,7 @@ pub fn begin<K: Kind>(
         return Err(Refusal::TooFewRows);
     }
     reasoner.restart(sizes);
-    // By its index: what a taken tautology changes is told by its place in the list.
+    // By its index: for a loop over a `filter_map` here the check states nothing that could be proved.
     for k in 0..count {
         if let Some(x) = tautology(&sizes, k) {
             take_tautology(reasoner, kind, x);
