@@ -57,7 +57,7 @@ pub(crate) fn write_marked<G: Clone + Copy + Drop>(
     ensures count { result ≡ rank (mark_at (view reasoner.now)) (t + 1) }
     ensures steps { Written (view reasoner.now) (mark_at (view reasoner.now)) (t + 1) buffer.old buffer.new }
 {
-    // The counter is the rank of the next marked step, of which its place is told.
+    // By a counter: for a loop over `filter` and `enumerate` here the check states nothing that could be proved.
     let mut count = 0;
     for k in 0..t + 1 {
         if marked(reasoner, k) {

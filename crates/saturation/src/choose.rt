@@ -25,7 +25,7 @@ impl<'a, G: Copy> Table<'a, G> {
     pub(crate) fn choose<K: Kind<Grade = G>>(&self, kind: &K) -> Option<usize>
         ensures { Chosen (K.Kind.algebra kind.now) (view self.now) self.now.len result }
     {
-        // The row's number is what is compared and answered, so the loop is over numbers.
+        // A loop, and no fold: `first_of` asks that `best` be the first of the rows before, which the loop's invariant tells.
         let mut best = None;
         for i in 0..self.len {
             best = self.first_of(kind, best, i);
