@@ -2,4 +2,3 @@ mod Accepting
 mod Chunks
 mod Errors
 mod Unsound
-mod Weights

@@ -7,8 +7,8 @@ ghost use Rattle.blockfile.specs.Layout.{block_of, sizes_in, SoundBlock, Sound, 
 ghost use Rattle.blockfile.specs.Faults.{BlockFaulty, BlocksChecked, SizesFaulty, FileChecked};
 ghost use Rattle.blockfile.specs.declared.fault.LoadFault.TheVariants.{Length};
 
+use crate::blocks::Block;
 use crate::fault::{BlockFault, LoadFault};
-use crate::reader::Block;
 use crate::stored::StoredKind;
 use standpoint::Sizes;
 
@@ -43,7 +43,7 @@ fn count_blocks(file: &[u8]) -> Result<u16, LoadFault>
     Ok((length / 512) as u16)
 }
 
-// Checks a whole block: its sum first. The kind is told by its byte, since which kinds there are stays open.
+// Checks a whole block: its sum first. The kind is told by its byte, which is all of it that a block has.
 fn check_block(block: Block<'_>, kind_byte: u8) -> Result<(), BlockFault>
     ensures { let bytes = block_of block.entry.file.now block.entry.number in
         MatchResult result

@@ -80,7 +80,7 @@ pub struct FaultReport {
 }
 
 impl LoadFault {
-    // What is told of the fault.
+    // What is told of the fault. A word of its own, since a report is no other form of the fault: it leaves the layers out.
     pub fn report(self) -> FaultReport
         ensures { result ≡ report_of self }
     {

@@ -6,10 +6,10 @@ pub use fault::{BlockFault, FaultReport, Layer, LoadFault, RecordFault};
 pub use loading::load;
 pub use stored::StoredKind;
 
+mod blocks;
 mod check;
 mod fault;
 mod layout;
 mod loading;
-mod reader;
 mod stored;
 mod sum;

@@ -4,9 +4,9 @@ ghost use Rattle.saturation.specs.Tables.{OverSame};
 ghost use Rattle.blockfile.specs.Layout.{count_in};
 ghost use Rattle.blockfile.specs.Loads.{AcceptsBefore, RecordLoaded, BlockLoaded, Sized, Loaded};
 
+use crate::blocks::{Block, Record};
 use crate::check::check_blocks;
 use crate::fault::{BlockFault, LoadFault, RecordFault};
-use crate::reader::{Block, Record};
 use crate::stored::StoredKind;
 use reasoner::{add, begin};
 use saturation::Table;
@@ -22,6 +22,7 @@ pub fn load<K: StoredKind>(
 {
     let blocks = check_blocks::<K>(file)?;
     begin_sized(reasoner, kind, file)?;
+    // By number, which the fault names.
     for number in 1..blocks {
         load_block(reasoner, kind, Block { file, number })?;
     }
@@ -54,6 +55,7 @@ fn load_block<K: StoredKind>(
     ensures answer { BlockLoaded (K.Kind.algebra kind.now) K.StoredKind.decoded block.entry.file.now block.entry.number reasoner.new result }
 {
     let count = u16::from(block.count());
+    // By place, which the fault names.
     for place in 0..count {
         load_record(reasoner, kind, Record { block, place })?;
     }

@@ -111,9 +111,7 @@ impl StoredKind for Odds {
     }
 
     fn decode(code: u32) -> Result<OddsGrade, Refusal> {
-        let Ok(value) = u8::try_from(code) else {
-            return Err(Refusal::NoGrade);
-        };
+        let value = u8::try_from(code).map_err(|_| Refusal::NoGrade)?;
         Ok(OddsGrade { value })
     }
 }

@@ -1,13 +1,13 @@
 // The lines of a case.
 use standpoint::{Sizes, Statement, Step};
 
-// A line that calls, with the answer that was recorded for it, empty if it has none.
+// A line that calls, with the answer that was recorded for it, if there is one.
 #[derive(Clone, Copy)]
 pub struct Line<'a> {
     // Counted from 1.
     pub number: usize,
     pub call: Call,
-    pub recorded: &'a str,
+    pub recorded: Option<&'a str>,
 }
 
 // A call; grades are given by their codes.

@@ -17,7 +17,7 @@ pub struct Case<'a> {
 enum Said<'a> {
     Case(u32),
     Kind(KindName),
-    Call(Call, &'a str),
+    Call(Call, Option<&'a str>),
 }
 
 // All cases of the text; refuses the first line that has no meaning.
@@ -61,7 +61,10 @@ fn last<'a, 'b>(cases: &'b mut Vec<Case<'a>>, number: usize) -> Result<&'b mut C
 
 fn read_line(line: &str, number: usize) -> Result<Option<Said<'_>>, Fault> {
     let (line, _) = line.split_once("#").unwrap_or((line, ""));
-    let (text, recorded) = line.split_once(" -> ").unwrap_or((line, ""));
+    let (text, recorded) = match line.split_once(" -> ") {
+        Some((text, recorded)) => (text, Some(recorded)),
+        None => (line, None),
+    };
     let mut words = Words::new(text);
     let Some(name) = words.word() else {
         return Ok(None);
@@ -70,7 +73,7 @@ fn read_line(line: &str, number: usize) -> Result<Option<Said<'_>>, Fault> {
     Ok(Some(said.ok_or(Fault::Unread(number))?))
 }
 
-fn meaning<'a>(name: &str, words: &mut Words<'_>, recorded: &'a str) -> Option<Said<'a>> {
+fn meaning<'a>(name: &str, words: &mut Words<'_>, recorded: Option<&'a str>) -> Option<Said<'a>> {
     Some(match name {
         "case" => Said::Case(words.number()?),
         "kind" => Said::Kind(words.kind_name()?),

@@ -41,7 +41,7 @@ impl Score {
 
     fn compare(&mut self, answer: &str, case: u32, line: Line<'_>) {
         self.answers = self.answers.saturating_add(1);
-        if answer == line.recorded {
+        if line.recorded == Some(answer) {
             self.agree = self.agree.saturating_add(1);
         } else if self.first_difference.is_none() {
             let line = line.number;

@@ -26,6 +26,7 @@ impl<'a> Words<'a> {
         self.word()?.parse::<N>().ok()
     }
 
+    // Each number goes to its field in the order of the line, here and below.
     pub(crate) fn sizes(&mut self) -> Option<Sizes> {
         Some(Sizes {
             standpoints: self.number()?,

@@ -57,6 +57,7 @@ fn agrees<K: StoredKind>(
     if let Err(fault) = load(&mut reasoner, kind, file) {
         return Ok(refused_so(fault, expected));
     }
+    // How many were settled, and how the run stands, is in the lines.
     match settle(&mut reasoner, kind, u32::MAX) {
         Ok((_count, _stand)) => Ok(settled_so::<K>(&reasoner, expected)),
         Err(_) => Ok(false),

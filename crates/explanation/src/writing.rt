@@ -39,7 +39,7 @@ fn renumbered<G: Clone + Copy + Drop>(reasoner: &Table<'_, G>, k: usize) -> Step
     }
 }
 
-// A write of its own: among what the loop knows, no bound is found for a place of a `Step` of any size.
+// Apart from the loop, in which the check finds no bound for the offset of a `Step` whose size is not known.
 fn put<G: Clone + Copy + Drop>(buffer: &mut [Step<G>], n: usize, step: Step<G>)
     requires { n < length buffer.old }
     ensures { buffer.new ≡ slice_set buffer.old n step }

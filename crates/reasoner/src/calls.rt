@@ -1,4 +1,5 @@
-// The calls. Each tests in a fixed order, and a refusal leaves everything as it was.
+// The calls. Each tests in a fixed order, and a refusal leaves everything as it was. The kind is handed to each call apart from
+// the table, which holds grades of any kind.
 ghost use Rattle.saturation.specs.Tables.{view, capacity, OverSame, Same};
 ghost use Rattle.reasoner.specs.Calls.{Begun, Adds, SettledSo};
 ghost use Rattle.std.specs.Prelude.{◌≡◌};
@@ -40,6 +41,7 @@ fn take_tautology<K: Kind>(reasoner: &mut Table<'_, K::Grade>, kind: &K, x: Stat
     ensures taken { Takes (K.Kind.algebra kind.now) x (view reasoner.old) (view reasoner.new) }
 {
     let start = kind.start();
+    // No row can be missing: begin tested that there are enough.
     let _ = reasoner.offer(kind, x, start, Kept::TAUTOLOGY);
 }
 
@@ -65,6 +67,7 @@ pub fn add<K: Kind>(
     if statement.misplaced(sizes.individuals) {
         return Err(Refusal::MisplacedIndividual);
     }
+    // The last test, as those above.
     if reasoner
         .offer(kind, statement, grade, Kept::ACCEPTED)
         .is_err()

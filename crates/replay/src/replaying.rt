@@ -59,7 +59,8 @@ fn perform_all<K: Kind>(
     count
 }
 
-// One call, which leaves the steps that are written already.
+// One call, which leaves the steps that are written already: they stay part of the list, since explanations are told by places
+// in the whole of it.
 fn perform_behind<K: Kind>(
     reasoner: &mut Table<'_, K::Grade>,
     kind: &K,
@@ -76,7 +77,7 @@ fn perform_behind<K: Kind>(
     perform(reasoner, kind, call, &mut steps[written..])
 }
 
-// A write of its own: among what the loop knows, no bound is found for a place of an outcome of any size.
+// Apart from the loop, in which the check finds no bound for the offset of an outcome whose size is not known.
 fn put<T: Drop>(places: &mut [T], i: usize, value: T)
     requires { i < length places.old }
     ensures { places.new ≡ slice_set places.old i value }
@@ -95,6 +96,7 @@ fn perform<K: Kind>(
     ensures long { capacity (view reasoner.new) ≡ capacity (view reasoner.old) }
     ensures done { Performs (K.Kind.algebra kind.now) call result reasoner.old reasoner.new room.old room.new }
 {
+    // A match, since which calls there are is closed, and each takes something else.
     match call {
         Call::Begin(sizes) => {
             begin(reasoner, kind, sizes)?;

@@ -11,9 +11,10 @@ use crate::rows::NoRow;
 use crate::table::Table;
 use standpoint::{Kind, Premises, Rule, Statement};
 
-// A rule over so many individuals, and the kind by which grades are joined.
+// What an inference rests on besides its premises: the rule, how many individuals there are, and the kind by which grades are
+// joined.
 #[derive(Drop)]
-pub(crate) struct By<'k, K: Kind> {
+pub(crate) struct Inference<'k, K: Kind> {
     pub kind: &'k K,
     pub individuals: u16,
     pub rule: Rule,
@@ -24,21 +25,36 @@ fn linked(rule: Rule, p: Statement, q: Statement) -> bool
     ensures { result ≡ linked (number_of_rule rule) p q }
 {
     match rule {
-        Rule::RoleTransitive => p.shape == 8 && q.shape == 8 && p.third == q.second,
-        Rule::SharperTransitive => p.shape == 1 && q.shape == 1 && p.second == q.first,
-        Rule::Lowered => q.shape == 1 && p.first == q.second,
-        Rule::LoweredInside => q.shape == 1 && p.third == q.second,
-        Rule::InsideTransitive => p.shape == 3 && q.shape == 3 && p.fifth == q.fourth,
-        Rule::SubsumedNested | Rule::NecessaryThenNested => p.shape == 3
-            && q.shape == 3
+        Rule::RoleTransitive => p.shape == Statement::ROLE_INCLUSION
+            && q.shape == Statement::ROLE_INCLUSION
+            && p.third == q.second,
+        Rule::SharperTransitive => p.shape == Statement::SHARPER
+            && q.shape == Statement::SHARPER
+            && p.second == q.first,
+        Rule::Lowered => q.shape == Statement::SHARPER && p.first == q.second,
+        Rule::LoweredInside => q.shape == Statement::SHARPER && p.third == q.second,
+        Rule::InsideTransitive => p.shape == Statement::NESTED_INCLUSION
+            && q.shape == Statement::NESTED_INCLUSION
+            && p.fifth == q.fourth,
+        Rule::SubsumedNested | Rule::NecessaryThenNested => p.shape == Statement::NESTED_INCLUSION
+            && q.shape == Statement::NESTED_INCLUSION
             && p.fifth == q.second,
-        Rule::SubsumedPossible | Rule::NecessaryThenPossible => p.shape == 3
-            && q.shape == 4
+        Rule::SubsumedPossible | Rule::NecessaryThenPossible => p.shape
+            == Statement::NESTED_INCLUSION
+            && q.shape == Statement::POSSIBLE_INCLUSION
             && p.fifth == q.second,
-        Rule::PossibleWidened => p.shape == 4 && q.shape == 3 && p.second == q.second,
-        Rule::PossibleThenNested => p.shape == 4 && q.shape == 3 && p.fourth == q.second,
-        Rule::PossibleThenPossible => p.shape == 4 && q.shape == 4 && p.fourth == q.second,
-        Rule::ExistentialMet => p.shape == 5 && q.shape == 6 && p.fourth == q.third,
+        Rule::PossibleWidened => p.shape == Statement::POSSIBLE_INCLUSION
+            && q.shape == Statement::NESTED_INCLUSION
+            && p.second == q.second,
+        Rule::PossibleThenNested => p.shape == Statement::POSSIBLE_INCLUSION
+            && q.shape == Statement::NESTED_INCLUSION
+            && p.fourth == q.second,
+        Rule::PossibleThenPossible => p.shape == Statement::POSSIBLE_INCLUSION
+            && q.shape == Statement::POSSIBLE_INCLUSION
+            && p.fourth == q.second,
+        Rule::ExistentialMet => p.shape == Statement::EXISTENTIAL_RIGHT
+            && q.shape == Statement::EXISTENTIAL_LEFT
+            && p.fourth == q.third,
         _ => false,
     }
 }
@@ -96,18 +112,26 @@ impl<'a, G: Copy> Table<'a, G> {
     // Offers what the rule gives from the premises settled at these places.
     pub(crate) fn attempt<K: Kind<Grade = G>>(
         &mut self,
-        by: &By<'_, K>,
+        inference: &Inference<'_, K>,
         at: Places,
     ) -> Result<(), NoRow>
         requires { SettledPlaces self.old.settled (listed_places at) }
         ensures same { Same self.old self.new }
-        ensures state { Went (K.Kind.algebra by.now.kind.now) by.now.individuals (view self.old) (view self.new) (λ l. Step (K.Kind.algebra by.now.kind.now) by.now.individuals l (number_of_rule by.now.rule) (listed_places at)) (λ l. Step (K.Kind.algebra by.now.kind.now) by.now.individuals l (number_of_rule by.now.rule) (listed_places at)) (is_ok result) }
+        ensures state { Went (K.Kind.algebra inference.now.kind.now) inference.now.individuals (view self.old) (view self.new) (λ l. Step (K.Kind.algebra inference.now.kind.now) inference.now.individuals l (number_of_rule inference.now.rule) (listed_places at)) (λ l. Step (K.Kind.algebra inference.now.kind.now) inference.now.individuals l (number_of_rule inference.now.rule) (listed_places at)) (is_ok result) }
     {
-        if !self.may_give(by.rule, at) {
+        if !self.may_give(inference.rule, at) {
             return Ok(());
         }
-        match by.rule.conclude(by.individuals, self.premises(at)) {
-            Some(x) => self.offer(by.kind, x, self.joined(by.kind, at), at.kept(by.rule)),
+        match inference
+            .rule
+            .conclude(inference.individuals, self.premises(at))
+        {
+            Some(x) => self.offer(
+                inference.kind,
+                x,
+                self.joined(inference.kind, at),
+                at.kept(inference.rule),
+            ),
             None => Ok(()),
         }
     }

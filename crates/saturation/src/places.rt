@@ -7,7 +7,8 @@ ghost use Rattle.standpoint.specs.RuleNumbers.{number_of_rule};
 use crate::row::Kept;
 use standpoint::Rule;
 
-// Settling places of premises, in joining order.
+// Settling places of premises, in joining order. Not `Premises` of places: these have methods of their own, and that type is of the
+// crate below.
 #[derive(Clone, Copy)]
 pub enum Places {
     One(usize),
@@ -15,7 +16,7 @@ pub enum Places {
     Three(usize, usize, usize),
 }
 
-// Where the newest statement stands among three premises.
+// Where the newest statement stands among three premises: unlike `Beside`, also first.
 #[derive(Clone, Copy)]
 pub enum Position {
     First,

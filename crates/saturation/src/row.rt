@@ -1,10 +1,11 @@
 // The rows of a table.
-use standpoint::Statement;
+use standpoint::{ACCEPTED, Statement, TAUTOLOGY};
 
-// A rule, and the settling places of its premises, from 1; 0 where unused, as in `Step`: it ranks as 0 there, so no case is needed.
+// What stands in the place of a rule in the `Step` that this is written out as, and the settling places of its premises, from 1,
+// 0 where unused. Plain numbers: a place is written as the count of marked places up to it, and up to 0 there are none, so that
+// no number of premises is a case of its own.
 #[derive(Clone, Copy)]
 pub struct Kept {
-    // 0 for an accepted statement, 24 for a tautology.
     pub rule: u8,
     pub first: usize,
     pub second: usize,
@@ -13,14 +14,14 @@ pub struct Kept {
 
 impl Kept {
     pub const ACCEPTED: Kept = Kept {
-        rule: 0,
+        rule: ACCEPTED,
         first: 0,
         second: 0,
         third: 0,
     };
 
     pub const TAUTOLOGY: Kept = Kept {
-        rule: 24,
+        rule: TAUTOLOGY,
         first: 0,
         second: 0,
         third: 0,
@@ -34,7 +35,7 @@ pub struct Row {
     pub kept: Kept,
     // The settling place, from 0; none while unsettled.
     pub place: Option<usize>,
-    // A column of its own: in the k-th row, from 0, the row that was settled k-th.
+    // A column of its own, since no memory but the lent rows is at hand: in the k-th row, from 0, the row that was settled k-th.
     pub turn: usize,
     // A column of its own: stands only while steps are written out.
     pub mark: bool,

@@ -1,6 +1,6 @@
 // Single rows: looking for one, taking one, changing one.
 ghost use Rattle.std.specs.Prelude.{◌≡◌, ℕ, ◌+◌, ◌<◌, ◌≤◌, false, length, if◌then◌else◌, is_ok, MatchOption, slice_index_or};
-ghost use Rattle.saturation.specs.Tables.{view, Same, RowOf, Found, has_room, pushed, improved, statement_at, turn_at, row_at};
+ghost use Rattle.saturation.specs.Tables.{view, Same, Found, has_room, pushed, improved, statement_at, turn_at, row_at};
 ghost use Rattle.saturation.specs.Searching.{Premise};
 
 use crate::row::{Kept, Row};
@@ -19,7 +19,9 @@ impl<'a, G: Copy> Table<'a, G> {
     pub fn find(&self, statement: Statement) -> Option<usize>
         ensures { Found (view self.now) statement result }
     {
-        row_of(self.rows, self.len, statement)
+        self.rows[..self.len]
+            .iter()
+            .position(|row| row.statement == statement)
     }
 
     // Takes one more row, if there is one.
@@ -74,14 +76,4 @@ impl<'a, G: Copy> Table<'a, G> {
     {
         self.grades[self.rows[k].turn]
     }
-}
-
-// The first of so many rows that holds the statement, or none.
-fn row_of(rows: &[Row], len: usize, statement: Statement) -> Option<usize>
-    requires { len ≤ length rows.now }
-    ensures { RowOf rows.now len statement result }
-{
-    rows[..len]
-        .iter()
-        .position(|row| row.statement == statement)
 }

@@ -5,7 +5,7 @@ ghost use Rattle.saturation.specs.Tables.{view, Same, statement_at, turn_at};
 ghost use Rattle.saturation.specs.Places.{Uses};
 ghost use Rattle.saturation.specs.Searching.{NeverGoes, Went, Pair, Triples, AllTriples, Around};
 
-use crate::attempt::By;
+use crate::attempt::Inference;
 use crate::places::{Places, Position};
 use crate::rows::NoRow;
 use crate::table::Table;
@@ -17,16 +17,16 @@ impl<'a, G: Copy> Table<'a, G> {
     // What a rule with two premises gives from the newest and the one settled at i.
     fn pair<K: Kind<Grade = G>>(
         &mut self,
-        by: &By<'_, K>,
+        inference: &Inference<'_, K>,
         newest: usize,
         i: usize,
     ) -> Result<(), NoRow>
         requires { (newest < self.old.settled) × (i < self.old.settled) }
         ensures same { Same self.old self.new }
-        ensures state { Went (K.Kind.algebra by.now.kind.now) by.now.individuals (view self.old) (view self.new) (Pair (K.Kind.algebra by.now.kind.now) by.now.individuals (number_of_rule by.now.rule) newest i) (λ l. Uses (K.Kind.algebra by.now.kind.now) by.now.individuals l newest) (is_ok result) }
+        ensures state { Went (K.Kind.algebra inference.now.kind.now) inference.now.individuals (view self.old) (view self.new) (Pair (K.Kind.algebra inference.now.kind.now) inference.now.individuals (number_of_rule inference.now.rule) newest i) (λ l. Uses (K.Kind.algebra inference.now.kind.now) inference.now.individuals l newest) (is_ok result) }
     {
-        self.attempt(by, Places::Two(newest, i))?;
-        self.attempt(by, Places::Two(i, newest))
+        self.attempt(inference, Places::Two(newest, i))?;
+        self.attempt(inference, Places::Two(i, newest))
     }
 
     // Whether the newest at its position and the one settled at i can go with any third at all.
@@ -46,21 +46,21 @@ impl<'a, G: Copy> Table<'a, G> {
     // What a rule with three premises gives with the newest at this position, the one settled at i, and any third.
     fn triples<K: Kind<Grade = G>>(
         &mut self,
-        by: &By<'_, K>,
+        inference: &Inference<'_, K>,
         position: Position,
         newest: usize,
         i: usize,
     ) -> Result<(), NoRow>
         requires { (newest < self.old.settled) × (i < self.old.settled) }
         ensures same { Same self.old self.new }
-        ensures state { Went (K.Kind.algebra by.now.kind.now) by.now.individuals (view self.old) (view self.new) (λ l. Triples (K.Kind.algebra by.now.kind.now) by.now.individuals (number_of_rule by.now.rule) position newest i (length l) l) (λ l. Uses (K.Kind.algebra by.now.kind.now) by.now.individuals l newest) (is_ok result) }
+        ensures state { Went (K.Kind.algebra inference.now.kind.now) inference.now.individuals (view self.old) (view self.new) (λ l. Triples (K.Kind.algebra inference.now.kind.now) inference.now.individuals (number_of_rule inference.now.rule) position newest i (length l) l) (λ l. Uses (K.Kind.algebra inference.now.kind.now) inference.now.individuals l newest) (is_ok result) }
     {
-        if !self.may_go(by.rule, position, newest, i) {
+        if !self.may_go(inference.rule, position, newest, i) {
             return Ok(());
         }
-        // By place and not by row, since each attempt may take or change rows.
+        // By place, here and in `search`: each attempt may take or change rows.
         for j in 0..self.settled {
-            self.attempt(by, position.arrange(newest, i, j))?;
+            self.attempt(inference, position.arrange(newest, i, j))?;
         }
         Ok(())
     }
@@ -68,34 +68,35 @@ impl<'a, G: Copy> Table<'a, G> {
     // The same with the newest at each position.
     fn all_triples<K: Kind<Grade = G>>(
         &mut self,
-        by: &By<'_, K>,
+        inference: &Inference<'_, K>,
         newest: usize,
         i: usize,
     ) -> Result<(), NoRow>
         requires { (newest < self.old.settled) × (i < self.old.settled) }
         ensures same { Same self.old self.new }
-        ensures state { Went (K.Kind.algebra by.now.kind.now) by.now.individuals (view self.old) (view self.new) (AllTriples (K.Kind.algebra by.now.kind.now) by.now.individuals (number_of_rule by.now.rule) newest i) (λ l. Uses (K.Kind.algebra by.now.kind.now) by.now.individuals l newest) (is_ok result) }
+        ensures state { Went (K.Kind.algebra inference.now.kind.now) inference.now.individuals (view self.old) (view self.new) (AllTriples (K.Kind.algebra inference.now.kind.now) inference.now.individuals (number_of_rule inference.now.rule) newest i) (λ l. Uses (K.Kind.algebra inference.now.kind.now) inference.now.individuals l newest) (is_ok result) }
     {
-        self.triples(by, Position::First, newest, i)?;
-        self.triples(by, Position::Second, newest, i)?;
-        self.triples(by, Position::Third, newest, i)
+        self.triples(inference, Position::First, newest, i)?;
+        self.triples(inference, Position::Second, newest, i)?;
+        self.triples(inference, Position::Third, newest, i)
     }
 
     // All that the rule gives from the newest, the one settled at i, and any third.
     fn around<K: Kind<Grade = G>>(
         &mut self,
-        by: &By<'_, K>,
+        inference: &Inference<'_, K>,
         newest: usize,
         i: usize,
     ) -> Result<(), NoRow>
         requires { (newest < self.old.settled) × (i < self.old.settled) }
         ensures same { Same self.old self.new }
-        ensures state { Went (K.Kind.algebra by.now.kind.now) by.now.individuals (view self.old) (view self.new) (Around (K.Kind.algebra by.now.kind.now) by.now.individuals (number_of_rule by.now.rule) newest i) (λ l. Uses (K.Kind.algebra by.now.kind.now) by.now.individuals l newest) (is_ok result) }
+        ensures state { Went (K.Kind.algebra inference.now.kind.now) inference.now.individuals (view self.old) (view self.new) (Around (K.Kind.algebra inference.now.kind.now) inference.now.individuals (number_of_rule inference.now.rule) newest i) (λ l. Uses (K.Kind.algebra inference.now.kind.now) inference.now.individuals l newest) (is_ok result) }
     {
-        match by.rule.arity() {
-            1 if i == newest => self.attempt(by, Places::One(newest)),
-            2 => self.pair(by, newest, i),
-            3 => self.all_triples(by, newest, i),
+        // A match, since each takes other places; what is left is a rule of one premise and another place than the newest.
+        match inference.rule.arity() {
+            1 if i == newest => self.attempt(inference, Places::One(newest)),
+            2 => self.pair(inference, newest, i),
+            3 => self.all_triples(inference, newest, i),
             _ => Ok(()),
         }
     }
@@ -111,16 +112,16 @@ impl<'a, G: Copy> Table<'a, G> {
         ensures same { Same self.old self.new }
         ensures state { Went (K.Kind.algebra kind.now) individuals (view self.old) (view self.new) (λ l. Uses (K.Kind.algebra kind.now) individuals l newest) (λ l. Uses (K.Kind.algebra kind.now) individuals l newest) (is_ok result) }
     {
-        // Left by its label, since nothing else may be offered once a row is missing.
+        // Both loops are left by the label of the outer one: the first consequence that finds no row ends the search for all.
         let mut outcome = Ok(());
         'search: for rule in Rule::ALL {
-            let by = By {
+            let inference = Inference {
                 kind,
                 individuals,
                 rule,
             };
             for i in 0..self.settled {
-                outcome = self.around(&by, newest, i);
+                outcome = self.around(&inference, newest, i);
                 if outcome.is_err() {
                     break 'search;
                 }

@@ -6,7 +6,8 @@ ghost use Rattle.saturation.specs.Rows.{TurnsWithin, Unmarked};
 use crate::phase::Phase;
 use crate::row::Row;
 
-// Rows with a grade beside each. The taken rows are the first `len`, and never move.
+// Rows with a grade beside each, in memory that is lent. The taken rows are the first `len`, and never move. That the memory
+// stays the same is said by each call, since an invariant speaks of one moment.
 #[derive(Drop)]
 pub struct Table<'a, G> {
     pub rows: &'a mut [Row],

@@ -83,6 +83,7 @@ fn run<K: StoredKind>(rt: &HostRuntime, kind: &K, file: &[u8]) -> Result<(), Sto
         print_refused(rt, fault)?;
         return Err(Stop::Refused);
     }
+    // How many were settled, and how the run stands, is in the lines.
     let (_count, _stand) = settle(&mut reasoner, kind, u32::MAX)?;
     print_settled::<K>(rt, &reasoner)
 }

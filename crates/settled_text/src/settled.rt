@@ -56,6 +56,7 @@ fn stand_line(stand: Stand, count: u32, buffer: &mut [u8]) -> Result<usize, Refu
     copy_line(&line, buffer)
 }
 
+// How the run stands, from the phase too: the rows alone do not tell that it stands full.
 fn stand_of<G: Copy>(reasoner: &Table<'_, G>) -> Stand
     ensures { result ≡ stand_of reasoner.now }
 {

@@ -1,6 +1,10 @@
 -- Each rule has as many premises as its arity says.
-use Rattle.std.proofs.Common.{◌≡◌, ℕ, ◌<◌, ◌≤◌, ◌⊎◌, List, length, sym, refl, ◌∙◌, arith, lit≤}
+use Rattle.std.proofs.Common.{◌≡◌, ℕ, ◌<◌, ◌≤◌, ◌⊎◌, Ok, Err, Result, Some, None, Option, List, length, sym, refl, ◌∙◌, arith, lit≤}
 use Rattle.std.proofs.lemmas.Bool.Decides.{nat_tests}
+use Rattle.std.specs.Result.{result_ok}
+use Rattle.standpoint.specs.declared.rules.named.Rule as enum
+use Rattle.standpoint.specs.declared.rules.named.UnknownRule.{UnknownRule}
+use Rattle.standpoint.specs.RuleNumbers.{Named}
 use Rattle.standpoint.specs.declared.statement.Statement.{Statement}
 use Rattle.standpoint.specs.Rules.{Rule, arity_of, HasArity}
 use Rattle.standpoint.specs.Rules.Rule.{role_transitive, sharper_transitive, sharper_than_both, lowered, lowered_inside, inside_transitive, subsumed_nested, subsumed_possible, possible_widened, necessary_then_nested, necessary_then_possible, possible_then_nested, possible_then_possible, existential_widened, existential_chained, existential_met, conjunction_met, necessary_here, of_all_things, existential_empty, necessary_empty, possible_empty, individual_empty}
@@ -45,3 +49,8 @@ no_rule {rule = rule} outside x h =
     let counts = arity_counts h in
     let none : arity_of rule ≡ 0 = grind (arith, nat_tests) in
     absurd (let z : ⊥ = omega arith in z)
+
+-- a number of which no rule is made is that of none
+pub not_named : {n : ℕ} (r : Result enum.Rule UnknownRule) → Named n r → result_ok r ≡ None → (n ≡ 0) ⊎ (23 < n)
+not_named (Ok rule) named e = absurd (let f : ◌≡◌ {A = Option enum.Rule} (Some rule) None = e in let z : ⊥ = cc in z)
+not_named (Err e) named none = named.1

@@ -13,15 +13,31 @@ impl Sorts {
     {
         use Sort::{Concept, Role, Standpoint, Unused};
         match shape {
-            1 => Some(Sorts::listed(Standpoint, Standpoint, Unused, Unused, Unused)),
-            2 => Some(Sorts::listed(Standpoint, Standpoint, Standpoint, Unused, Unused)),
-            3 => Some(Sorts::listed(Standpoint, Concept, Standpoint, Concept, Concept)),
-            4 => Some(Sorts::listed(Standpoint, Concept, Standpoint, Concept, Unused)),
-            5 => Some(Sorts::listed(Standpoint, Concept, Role, Concept, Unused)),
-            6 => Some(Sorts::listed(Standpoint, Role, Concept, Concept, Unused)),
-            7 => Some(Sorts::listed(Standpoint, Concept, Concept, Concept, Unused)),
-            8 => Some(Sorts::listed(Standpoint, Role, Role, Unused, Unused)),
-            9 => Some(Sorts::listed(Standpoint, Role, Role, Role, Unused)),
+            Statement::SHARPER => Some(Sorts::listed(
+                Standpoint, Standpoint, Unused, Unused, Unused,
+            )),
+            Statement::INTERSECTION_SHARPER => Some(Sorts::listed(
+                Standpoint, Standpoint, Standpoint, Unused, Unused,
+            )),
+            Statement::NESTED_INCLUSION => Some(Sorts::listed(
+                Standpoint, Concept, Standpoint, Concept, Concept,
+            )),
+            Statement::POSSIBLE_INCLUSION => Some(Sorts::listed(
+                Standpoint, Concept, Standpoint, Concept, Unused,
+            )),
+            Statement::EXISTENTIAL_RIGHT => Some(Sorts::listed(
+                Standpoint, Concept, Role, Concept, Unused,
+            )),
+            Statement::EXISTENTIAL_LEFT => Some(Sorts::listed(
+                Standpoint, Role, Concept, Concept, Unused,
+            )),
+            Statement::CONJUNCTION_LEFT => Some(Sorts::listed(
+                Standpoint, Concept, Concept, Concept, Unused,
+            )),
+            Statement::ROLE_INCLUSION => Some(Sorts::listed(
+                Standpoint, Role, Role, Unused, Unused,
+            )),
+            Statement::ROLE_CHAIN => Some(Sorts::listed(Standpoint, Role, Role, Role, Unused)),
             _ => None,
         }
     }
@@ -65,7 +81,8 @@ impl Statement {
             return false;
         };
         sorts.first.names_individual(individuals, self.first)
-            || self.shape != 3 && sorts.second.names_individual(individuals, self.second)
+            || self.shape != Statement::NESTED_INCLUSION
+                && sorts.second.names_individual(individuals, self.second)
             || sorts.third.names_individual(individuals, self.third)
             || sorts.fourth.names_individual(individuals, self.fourth)
             || sorts.fifth.names_individual(individuals, self.fifth)

@@ -7,7 +7,7 @@ pub use refusal::Refusal;
 pub use rules::{Rule, UnknownRule, arity, conclude, may_meet};
 pub use sizes::Sizes;
 pub use statement::{Sort, Sorts, Statement};
-pub use step::Step;
+pub use step::{ACCEPTED, Step, TAUTOLOGY};
 pub use tautologies::{is_tautology, tautology, tautology_count};
 pub use verdict::check;
 

@@ -26,6 +26,7 @@ impl Rule {
         self.apply(individuals, premises)
     }
 
+    // Any other number of premises gives nothing.
     fn apply(self, individuals: u16, premises: Premises) -> Option<Statement>
         ensures { result ≡ conclusion individuals (number_of_rule self) premises }
     {
@@ -69,10 +70,7 @@ impl Rule {
 pub fn arity(rule: u8) -> u8
     ensures { HasArity rule result }
 {
-    match Rule::try_from(rule) {
-        Ok(rule) => rule.arity(),
-        Err(_) => 0,
-    }
+    Rule::try_from(rule).map_or(0, Rule::arity)
 }
 
 // The conclusion of the rule of a number, or none; no rule has a number below 1 or above 23.
@@ -80,8 +78,6 @@ pub fn conclude(individuals: u16, rule: u8, premises: Premises) -> Option<Statem
     ensures conclusion { Concluded individuals rule (listed premises) result }
     ensures fits { FitsAs individuals (listed premises) result }
 {
-    match Rule::try_from(rule) {
-        Ok(rule) => rule.conclude(individuals, premises),
-        Err(_) => None,
-    }
+    let rule = Rule::try_from(rule).ok()?;
+    rule.conclude(individuals, premises)
 }

@@ -40,6 +40,7 @@ impl TryFrom<u8> for Rule {
 
     ghost try_from_gives = { Named };
 
+    // A match, since an enum is not made from a number by `as`.
     fn try_from(number: u8) -> Result<Rule, UnknownRule> {
         match number {
             1 => Ok(Rule::RoleTransitive),
@@ -109,15 +110,17 @@ impl Rule {
     pub fn arity(self) -> u8
         ensures { HasArity (number_of_rule self) result }
     {
-        use Rule::*;
         match self {
-            SharperThanBoth | ExistentialWidened | ExistentialChained | ConjunctionMet => 3,
-            NecessaryHere
-            | OfAllThings
-            | ExistentialEmpty
-            | NecessaryEmpty
-            | PossibleEmpty
-            | IndividualEmpty => 1,
+            Rule::SharperThanBoth
+            | Rule::ExistentialWidened
+            | Rule::ExistentialChained
+            | Rule::ConjunctionMet => 3,
+            Rule::NecessaryHere
+            | Rule::OfAllThings
+            | Rule::ExistentialEmpty
+            | Rule::NecessaryEmpty
+            | Rule::PossibleEmpty
+            | Rule::IndividualEmpty => 1,
             _ => 2,
         }
     }

@@ -1,5 +1,5 @@
 #![tactic(auto, unfolding(crate::specs::Statements::same))]
-// Which two premises can go together in a rule of three.
+// Which two premises can go together in a rule of three: what its function asks of them, since the third is not at hand.
 ghost use Rattle.std.specs.Prelude.{◌≡◌, ℕ};
 ghost use Rattle.standpoint.specs.Conclusions.{goes_second, goes_third};
 ghost use Rattle.standpoint.specs.Lists.{Tells};
@@ -22,14 +22,11 @@ impl Rule {
     }
 }
 
-// Whether some third premise goes with p as the first and q at its place, by the rule of a number.
+// The same by number, as step lists name rules: every number is answered.
 pub fn may_meet(rule: u8, p: Statement, place: Beside, q: Statement) -> bool
     ensures { (individuals : ℕ) → Tells result (GoesWith individuals rule p place q) }
 {
-    match Rule::try_from(rule) {
-        Ok(rule) => rule.may_meet(p, place, q),
-        Err(_) => false,
-    }
+    Rule::try_from(rule).is_ok_and(|rule| rule.may_meet(p, place, q))
 }
 
 fn goes_second(rule: Rule, p: Statement, q: Statement) -> bool

@@ -40,7 +40,9 @@ pub(super) fn lowered(x: Statement, q: Statement) -> Option<Statement>
     ensures { result ≡ lowered x q }
 {
     let s = q.first;
-    if x.shape >= 3 && x.shape <= 9 && q == Statement::sharper(s, x.first) {
+    if (Statement::NESTED_INCLUSION..=Statement::ROLE_CHAIN).contains(&x.shape)
+        && q == Statement::sharper(s, x.first)
+    {
         Some(Statement { first: s, ..x })
     } else {
         None

@@ -9,7 +9,7 @@ ghost use Rattle.standpoint.specs.Verdicts.{base_of};
 use crate::kinds::Kind;
 use crate::sizes::Sizes;
 use crate::statement::Statement;
-use crate::step::Step;
+use crate::step::{ACCEPTED, Step, TAUTOLOGY};
 use crate::tautologies::is_tautology;
 use crate::verdict::equality::{equal, same};
 use crate::verdict::grounds::follows;
@@ -35,8 +35,8 @@ impl<'a, K: Kind> Basis<'a, K> {
         ensures { Tells result (Agrees (K.Kind.algebra self.now.kind.now) (base_of self.now.sizes self.now.accepted.now) earlier.now (length earlier.now) step) }
     {
         match step.rule {
-            0 => self.by_acceptance(step),
-            24 => self.by_tautology(step),
+            ACCEPTED => self.by_acceptance(step),
+            TAUTOLOGY => self.by_tautology(step),
             _ => follows(self.kind, self.sizes.individuals, earlier, step),
         }
     }

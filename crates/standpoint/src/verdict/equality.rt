@@ -1,4 +1,4 @@
-// When what two steps give is the same.
+// When what two steps give is the same: a statement and its grade, side by side as steps and accepted statements hold them.
 ghost use Rattle.std.specs.Prelude.{◌≡◌};
 ghost use Rattle.standpoint.specs.Lists.{Tells};
 

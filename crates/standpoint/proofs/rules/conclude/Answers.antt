@@ -1,5 +1,9 @@
-use Rattle.standpoint.proofs.Arities.{no_rule}
+use Rattle.std.proofs.Common.{◌≡◌, None, sym, ◌∙◌}
+use Rattle.std.specs.Result.{result_ok}
+use Rattle.standpoint.proofs.Arities.{no_rule, not_named}
 use Rattle.standpoint.proofs.rules.conclude.Goals as goal
 
-pub returns-in-Err-clause-conclusion : goal.returns-in-Err-clause-conclusion
-returns-in-Err-clause-conclusion c = no_rule c.in-Err.ensures.1
+pub returns-in_err-rule-clause-conclusion : goal.returns-in_err-rule-clause-conclusion
+returns-in_err-rule-clause-conclusion c =
+    let none : result_ok c.try_from.result ≡ None = sym c.ok.ensures.value ∙ c.in_err-rule.was in
+    rw c.from_residual.ensures (no_rule (not_named c.try_from.result c.try_from.ensures none))

@@ -10,9 +10,9 @@ use Rattle.saturation.proofs.table.Table.all_triples.Goals as goal
 
 pub returns-in_err-triples-2-clause-state : goal.returns-in_err-triples-2-clause-state
 returns-in_err-triples-2-clause-state g c =
-    let al = g.K.Kind.algebra c.args.by.now.kind.now in
-    let v = c.args.by.now.individuals in
-    let rule = number_of_rule c.args.by.now.rule in
+    let al = g.K.Kind.algebra c.args.inference.now.kind.now in
+    let v = c.args.inference.now.individuals in
+    let rule = number_of_rule c.args.inference.now.rule in
     let t = c.args.self.now in
     let s2 = view c.triples-2.new.self in
     let n = c.args.newest in
@@ -27,9 +27,9 @@ returns-in_err-triples-2-clause-state g c =
 
 pub returns-clause-state : goal.returns-clause-state
 returns-clause-state g c =
-    let al = g.K.Kind.algebra c.args.by.now.kind.now in
-    let v = c.args.by.now.individuals in
-    let rule = number_of_rule c.args.by.now.rule in
+    let al = g.K.Kind.algebra c.args.inference.now.kind.now in
+    let v = c.args.inference.now.individuals in
+    let rule = number_of_rule c.args.inference.now.rule in
     let t = c.args.self.now in
     let n = c.args.newest in
     let P = ThirdOf al v rule n c.args.i in

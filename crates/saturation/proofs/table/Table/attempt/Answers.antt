@@ -12,30 +12,30 @@ use Rattle.saturation.proofs.table.Table.attempt.Goals as goal
 
 pub returns-then-not-may_give-clause-state : goal.returns-then-not-may_give-clause-state
 returns-then-not-may_give-clause-state g c =
-    let al = g.K.Kind.algebra c.args.by.now.kind.now in
+    let al = g.K.Kind.algebra c.args.inference.now.kind.now in
     let t = c.args.self.now in
-    let n = c.args.by.now.individuals in
+    let n = c.args.inference.now.individuals in
     let places = listed_places c.args.at in
     let stands = premises_stand (view t) (t.settled_fit, t.turns) t.grades_fit al.start places c.requires in
     let none = c.may_give.ensures c.if-not-may_give.true al.start n in
-    attempt_none al n (view t) (number_of_rule c.args.by.now.rule) places (premises_in (view t) al.start places) stands none
+    attempt_none al n (view t) (number_of_rule c.args.inference.now.rule) places (premises_in (view t) al.start places) stands none
 
 pub returns-in-None-clause-state : goal.returns-in-None-clause-state
 returns-in-None-clause-state g c =
-    let al = g.K.Kind.algebra c.args.by.now.kind.now in
+    let al = g.K.Kind.algebra c.args.inference.now.kind.now in
     let t = c.args.self.now in
-    let n = c.args.by.now.individuals in
+    let n = c.args.inference.now.individuals in
     let places = listed_places c.args.at in
     let stands = premises_stand (view t) (t.settled_fit, t.turns) t.grades_fit al.start places c.requires in
-    let none = subst (λ (qs : List Statement). Concluded n (number_of_rule c.args.by.now.rule) qs None) (c.premises.ensures al.start) c.in-None.ensures.conclusion in
-    attempt_none al n (view t) (number_of_rule c.args.by.now.rule) places (premises_in (view t) al.start places) stands none
+    let none = subst (λ (qs : List Statement). Concluded n (number_of_rule c.args.inference.now.rule) qs None) (c.premises.ensures al.start) c.in-None.ensures.conclusion in
+    attempt_none al n (view t) (number_of_rule c.args.inference.now.rule) places (premises_in (view t) al.start places) stands none
 
 pub returns-in-Some-clause-state : goal.returns-in-Some-clause-state
 returns-in-Some-clause-state g c =
-    let al = g.K.Kind.algebra c.args.by.now.kind.now in
+    let al = g.K.Kind.algebra c.args.inference.now.kind.now in
     let t = c.args.self.now in
-    let n = c.args.by.now.individuals in
+    let n = c.args.inference.now.individuals in
     let places = listed_places c.args.at in
     let stands = premises_stand (view t) (t.settled_fit, t.turns) t.grades_fit al.start places c.requires in
-    let some = subst (λ (qs : List Statement). Concluded n (number_of_rule c.args.by.now.rule) qs (Some c.in-Some.x)) (c.premises.ensures al.start) c.in-Some.ensures.conclusion in
-    attempt_some al n (view t) (number_of_rule c.args.by.now.rule) places (premises_in (view t) al.start places) stands (view c.offer.new.self) c.in-Some.x c.joined.result (is_ok c.offer.result) c.kept.result c.kept.ensures c.offer.ensures.keeps some.0 some.1 (c.joined.ensures al.start) c.offer.ensures.state
+    let some = subst (λ (qs : List Statement). Concluded n (number_of_rule c.args.inference.now.rule) qs (Some c.in-Some.x)) (c.premises.ensures al.start) c.in-Some.ensures.conclusion in
+    attempt_some al n (view t) (number_of_rule c.args.inference.now.rule) places (premises_in (view t) al.start places) stands (view c.offer.new.self) c.in-Some.x c.joined.result (is_ok c.offer.result) c.kept.result c.kept.ensures c.offer.ensures.keeps some.0 some.1 (c.joined.ensures al.start) c.offer.ensures.state

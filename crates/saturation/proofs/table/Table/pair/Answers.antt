@@ -8,9 +8,9 @@ use Rattle.saturation.proofs.table.Table.pair.Goals as goal
 
 pub returns-in_err-attempt-clause-state : goal.returns-in_err-attempt-clause-state
 returns-in_err-attempt-clause-state g c =
-    let al = g.K.Kind.algebra c.args.by.now.kind.now in
-    let v = c.args.by.now.individuals in
-    let rule = number_of_rule c.args.by.now.rule in
+    let al = g.K.Kind.algebra c.args.inference.now.kind.now in
+    let v = c.args.inference.now.individuals in
+    let rule = number_of_rule c.args.inference.now.rule in
     let t = view c.args.self.now in
     let u = view c.attempt.new.self in
     let n = c.args.newest in
@@ -21,8 +21,8 @@ returns-in_err-attempt-clause-state g c =
 
 pub returns-clause-state : goal.returns-clause-state
 returns-clause-state g c =
-    let al = g.K.Kind.algebra c.args.by.now.kind.now in
+    let al = g.K.Kind.algebra c.args.inference.now.kind.now in
     let t = c.args.self.now in
-    let rule = number_of_rule c.args.by.now.rule in
+    let rule = number_of_rule c.args.inference.now.rule in
     let on : is_ok c.attempt.result ≡ true = ap is_ok c.in_ok-attempt.was in
-    went_pair al c.args.by.now.individuals (view t) (view c.attempt.new.self) (view c.attempt-2.new.self) rule c.args.newest c.args.i (is_ok c.attempt.result) (is_ok c.attempt-2.result) (t.settled_fit, t.turns) on c.attempt.ensures.state c.attempt-2.ensures.state
+    went_pair al c.args.inference.now.individuals (view t) (view c.attempt.new.self) (view c.attempt-2.new.self) rule c.args.newest c.args.i (is_ok c.attempt.result) (is_ok c.attempt-2.result) (t.settled_fit, t.turns) on c.attempt.ensures.state c.attempt-2.ensures.state

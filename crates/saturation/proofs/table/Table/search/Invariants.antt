@@ -11,7 +11,7 @@ abbrev pub invariant-loop-i : goal.invariant-loop-i
 invariant-loop-i g l =
     let al = g.K.Kind.algebra l.kind in
     let v = l.individuals in
-    (is_ok l.outcome ≡ true) × Same l.initial.self l.self × Went al v (view l.initial.self) (view l.self) (Below (Around al v (number_of_rule l.by.rule) l.newest) l.i) (Using al v l.newest) true
+    (is_ok l.outcome ≡ true) × Same l.initial.self l.self × Went al v (view l.initial.self) (view l.self) (Below (Around al v (number_of_rule l.inference.rule) l.newest) l.i) (Using al v l.newest) true
 
 -- what the rules so far give was offered, since the call
 abbrev pub invariant-search : goal.invariant-search

@@ -13,16 +13,16 @@ use Rattle.saturation.proofs.table.Table.triples.Goals as goal
 
 pub returns-then-not-may_go-clause-state : goal.returns-then-not-may_go-clause-state
 returns-then-not-may_go-clause-state g c =
-    let al = g.K.Kind.algebra c.args.by.now.kind.now in
+    let al = g.K.Kind.algebra c.args.inference.now.kind.now in
     let t = c.args.self.now in
     let stands = premises_stand (view t) (t.settled_fit, t.turns) t.grades_fit al.start in
-    went_never al c.args.by.now.individuals (view t) (number_of_rule c.args.by.now.rule) c.args.position c.args.newest c.args.i al.start stands c.requires.0 c.requires.1 (c.may_go.ensures c.if-not-may_go.true)
+    went_never al c.args.inference.now.individuals (view t) (number_of_rule c.args.inference.now.rule) c.args.position c.args.newest c.args.i al.start stands c.requires.0 c.requires.1 (c.may_go.ensures c.if-not-may_go.true)
 
 pub returns-in_err-attempt-clause-state : goal.returns-in_err-attempt-clause-state
 returns-in_err-attempt-clause-state g c =
-    let al = g.K.Kind.algebra c.args.by.now.kind.now in
-    let v = c.args.by.now.individuals in
-    let rule = number_of_rule c.args.by.now.rule in
+    let al = g.K.Kind.algebra c.args.inference.now.kind.now in
+    let v = c.args.inference.now.individuals in
+    let rule = number_of_rule c.args.inference.now.rule in
     let t = c.args.self.now in
     let n = c.args.newest in
     let i = c.args.i in
@@ -40,8 +40,8 @@ returns-in_err-attempt-clause-state g c =
 
 pub loop-j-preserved : goal.loop-j-preserved
 loop-j-preserved g c =
-    let al = g.K.Kind.algebra c.args.by.now.kind.now in
-    let v = c.args.by.now.individuals in
+    let al = g.K.Kind.algebra c.args.inference.now.kind.now in
+    let v = c.args.inference.now.individuals in
     let t = c.args.self.now in
     let n = c.args.newest in
     let inv = c.loop-j.invariant in
@@ -49,7 +49,7 @@ loop-j-preserved g c =
     let u = view c.attempt.new.self in
     let m = view c.loop-j.self in
     let on : is_ok c.attempt.result ≡ true = ap is_ok c.in_ok-attempt.was in
-    let here = subst (λ (ks : List ℕ). Went al v m u (λ l. Step al v l (number_of_rule c.args.by.now.rule) ks) (λ l. Step al v l (number_of_rule c.args.by.now.rule) ks) (is_ok c.attempt.result)) c.arrange.ensures c.attempt.ensures.state in
-    let made = subst (λ (b : Bool). Went al v (view t) u (Below (Triple al v (number_of_rule c.args.by.now.rule) c.args.position n c.args.i) (c.loop-j.j + 1)) (Using al v n) b) on
-    (went_triple al v (view t) m u (number_of_rule c.args.by.now.rule) c.args.position n c.args.i c.loop-j.j (is_ok c.attempt.result) (t.settled_fit, t.turns) inv.1 here) in
+    let here = subst (λ (ks : List ℕ). Went al v m u (λ l. Step al v l (number_of_rule c.args.inference.now.rule) ks) (λ l. Step al v l (number_of_rule c.args.inference.now.rule) ks) (is_ok c.attempt.result)) c.arrange.ensures c.attempt.ensures.state in
+    let made = subst (λ (b : Bool). Went al v (view t) u (Below (Triple al v (number_of_rule c.args.inference.now.rule) c.args.position n c.args.i) (c.loop-j.j + 1)) (Using al v n) b) on
+    (went_triple al v (view t) m u (number_of_rule c.args.inference.now.rule) c.args.position n c.args.i c.loop-j.j (is_ok c.attempt.result) (t.settled_fit, t.turns) inv.1 here) in
     (same_then inv.0 one, made)

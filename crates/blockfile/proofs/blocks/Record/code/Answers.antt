@@ -1,7 +1,7 @@
 use Rattle.std.proofs.Common.{◌≡◌, ◌∙◌}
 use Rattle.blockfile.specs.Layout.{big4}
 use Rattle.blockfile.proofs.Chunks.{code_is}
-use Rattle.blockfile.proofs.reader.Record.code.Goals as goal
+use Rattle.blockfile.proofs.blocks.Record.code.Goals as goal
 
 pub returns : goal.returns
 returns c =

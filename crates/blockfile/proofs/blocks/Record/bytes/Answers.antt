@@ -2,7 +2,7 @@ use Rattle.std.proofs.Common.{◌≡◌, ◌*◌, ◌/◌, ◌<◌, [], length, 
 use Rattle.std.specs.Simd.{first_chunks}
 use Rattle.blockfile.specs.Layout.{record_of}
 use Rattle.blockfile.proofs.Chunks.{chunk_at, in_block}
-use Rattle.blockfile.proofs.reader.Record.bytes.Goals as goal
+use Rattle.blockfile.proofs.blocks.Record.bytes.Goals as goal
 
 pub returns : goal.returns
 returns c =

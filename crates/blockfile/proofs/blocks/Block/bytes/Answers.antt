@@ -2,7 +2,7 @@ use Rattle.std.proofs.Common.{◌≡◌, ◌/◌, ◌<◌, [], length, get_or, a
 use Rattle.std.specs.Simd.{first_chunks}
 use Rattle.blockfile.specs.Layout.{block_of}
 use Rattle.blockfile.proofs.Chunks.{chunk_at}
-use Rattle.blockfile.proofs.reader.Block.bytes.Goals as goal
+use Rattle.blockfile.proofs.blocks.Block.bytes.Goals as goal
 
 pub returns : goal.returns
 returns c =
