@@ -9,6 +9,10 @@ ghost use Rattle.saturation.specs.Searching.{premises_in, SettledPlaces, GivesNo
 use crate::places::Places;
 use crate::rows::NoRow;
 use crate::table::Table;
+use standpoint::shape::{
+    EXISTENTIAL_LEFT, EXISTENTIAL_RIGHT, NESTED_INCLUSION, POSSIBLE_INCLUSION, ROLE_INCLUSION,
+    SHARPER,
+};
 use standpoint::{Kind, Premises, Rule, Statement};
 
 // What an inference rests on besides its premises: the rule, how many individuals there are, and the kind by which grades are
@@ -25,36 +29,35 @@ fn linked(rule: Rule, p: Statement, q: Statement) -> bool
     ensures { result ≡ linked (number_of_rule rule) p q }
 {
     match rule {
-        Rule::RoleTransitive => p.shape == Statement::ROLE_INCLUSION
-            && q.shape == Statement::ROLE_INCLUSION
-            && p.third == q.second,
-        Rule::SharperTransitive => p.shape == Statement::SHARPER
-            && q.shape == Statement::SHARPER
-            && p.second == q.first,
-        Rule::Lowered => q.shape == Statement::SHARPER && p.first == q.second,
-        Rule::LoweredInside => q.shape == Statement::SHARPER && p.third == q.second,
-        Rule::InsideTransitive => p.shape == Statement::NESTED_INCLUSION
-            && q.shape == Statement::NESTED_INCLUSION
-            && p.fifth == q.fourth,
-        Rule::SubsumedNested | Rule::NecessaryThenNested => p.shape == Statement::NESTED_INCLUSION
-            && q.shape == Statement::NESTED_INCLUSION
-            && p.fifth == q.second,
-        Rule::SubsumedPossible | Rule::NecessaryThenPossible => p.shape
-            == Statement::NESTED_INCLUSION
-            && q.shape == Statement::POSSIBLE_INCLUSION
-            && p.fifth == q.second,
-        Rule::PossibleWidened => p.shape == Statement::POSSIBLE_INCLUSION
-            && q.shape == Statement::NESTED_INCLUSION
-            && p.second == q.second,
-        Rule::PossibleThenNested => p.shape == Statement::POSSIBLE_INCLUSION
-            && q.shape == Statement::NESTED_INCLUSION
-            && p.fourth == q.second,
-        Rule::PossibleThenPossible => p.shape == Statement::POSSIBLE_INCLUSION
-            && q.shape == Statement::POSSIBLE_INCLUSION
-            && p.fourth == q.second,
-        Rule::ExistentialMet => p.shape == Statement::EXISTENTIAL_RIGHT
-            && q.shape == Statement::EXISTENTIAL_LEFT
-            && p.fourth == q.third,
+        Rule::RoleTransitive => {
+            p.shape == ROLE_INCLUSION && q.shape == ROLE_INCLUSION && p.third == q.second
+        }
+        Rule::SharperTransitive => {
+            p.shape == SHARPER && q.shape == SHARPER && p.second == q.first
+        }
+        Rule::Lowered => q.shape == SHARPER && p.first == q.second,
+        Rule::LoweredInside => q.shape == SHARPER && p.third == q.second,
+        Rule::InsideTransitive => {
+            p.shape == NESTED_INCLUSION && q.shape == NESTED_INCLUSION && p.fifth == q.fourth
+        }
+        Rule::SubsumedNested | Rule::NecessaryThenNested => {
+            p.shape == NESTED_INCLUSION && q.shape == NESTED_INCLUSION && p.fifth == q.second
+        }
+        Rule::SubsumedPossible | Rule::NecessaryThenPossible => {
+            p.shape == NESTED_INCLUSION && q.shape == POSSIBLE_INCLUSION && p.fifth == q.second
+        }
+        Rule::PossibleWidened => {
+            p.shape == POSSIBLE_INCLUSION && q.shape == NESTED_INCLUSION && p.second == q.second
+        }
+        Rule::PossibleThenNested => {
+            p.shape == POSSIBLE_INCLUSION && q.shape == NESTED_INCLUSION && p.fourth == q.second
+        }
+        Rule::PossibleThenPossible => {
+            p.shape == POSSIBLE_INCLUSION && q.shape == POSSIBLE_INCLUSION && p.fourth == q.second
+        }
+        Rule::ExistentialMet => {
+            p.shape == EXISTENTIAL_RIGHT && q.shape == EXISTENTIAL_LEFT && p.fourth == q.third
+        }
         _ => false,
     }
 }

@@ -1,8 +1,12 @@
 // What the numbers of a statement name, and whether they may.
 ghost use Rattle.std.specs.Prelude.{◌≡◌, Some};
 ghost use Rattle.standpoint.specs.Lists.{Tells};
-ghost use Rattle.standpoint.specs.Statements.{Fits, Misplaced, NamesIndividual, Sorted, Within, sorts, sorts_of};
+ghost use Rattle.standpoint.specs.Statements.{Fits, Misplaced, NamesIndividual, Sorted, Within, sorts_of};
 
+use crate::shape::{
+    CONJUNCTION_LEFT, EXISTENTIAL_LEFT, EXISTENTIAL_RIGHT, INTERSECTION_SHARPER, NESTED_INCLUSION,
+    POSSIBLE_INCLUSION, ROLE_CHAIN, ROLE_INCLUSION, SHARPER,
+};
 use crate::sizes::Sizes;
 use crate::statement::{Sort, Sorts, Statement};
 
@@ -12,34 +16,25 @@ impl Sorts {
         ensures { result ≡ sorts_of shape }
     {
         use Sort::{Concept, Role, Standpoint, Unused};
-        match shape {
-            Statement::SHARPER => Some(Sorts::listed(
-                Standpoint, Standpoint, Unused, Unused, Unused,
-            )),
-            Statement::INTERSECTION_SHARPER => Some(Sorts::listed(
-                Standpoint, Standpoint, Standpoint, Unused, Unused,
-            )),
-            Statement::NESTED_INCLUSION => Some(Sorts::listed(
-                Standpoint, Concept, Standpoint, Concept, Concept,
-            )),
-            Statement::POSSIBLE_INCLUSION => Some(Sorts::listed(
-                Standpoint, Concept, Standpoint, Concept, Unused,
-            )),
-            Statement::EXISTENTIAL_RIGHT => Some(Sorts::listed(
-                Standpoint, Concept, Role, Concept, Unused,
-            )),
-            Statement::EXISTENTIAL_LEFT => Some(Sorts::listed(
-                Standpoint, Role, Concept, Concept, Unused,
-            )),
-            Statement::CONJUNCTION_LEFT => Some(Sorts::listed(
-                Standpoint, Concept, Concept, Concept, Unused,
-            )),
-            Statement::ROLE_INCLUSION => Some(Sorts::listed(
-                Standpoint, Role, Role, Unused, Unused,
-            )),
-            Statement::ROLE_CHAIN => Some(Sorts::listed(Standpoint, Role, Role, Role, Unused)),
-            _ => None,
-        }
+        let (first, second, third, fourth, fifth) = match shape {
+            SHARPER => (Standpoint, Standpoint, Unused, Unused, Unused),
+            INTERSECTION_SHARPER => (Standpoint, Standpoint, Standpoint, Unused, Unused),
+            NESTED_INCLUSION => (Standpoint, Concept, Standpoint, Concept, Concept),
+            POSSIBLE_INCLUSION => (Standpoint, Concept, Standpoint, Concept, Unused),
+            EXISTENTIAL_RIGHT => (Standpoint, Concept, Role, Concept, Unused),
+            EXISTENTIAL_LEFT => (Standpoint, Role, Concept, Concept, Unused),
+            CONJUNCTION_LEFT => (Standpoint, Concept, Concept, Concept, Unused),
+            ROLE_INCLUSION => (Standpoint, Role, Role, Unused, Unused),
+            ROLE_CHAIN => (Standpoint, Role, Role, Role, Unused),
+            _ => return None,
+        };
+        Some(Sorts {
+            first,
+            second,
+            third,
+            fourth,
+            fifth,
+        })
     }
 
     fn admit(self, sizes: &Sizes, x: Statement) -> bool
@@ -50,18 +45,6 @@ impl Sorts {
             && self.third.has(sizes, x.third)
             && self.fourth.has(sizes, x.fourth)
             && self.fifth.has(sizes, x.fifth)
-    }
-
-    fn listed(first: Sort, second: Sort, third: Sort, fourth: Sort, fifth: Sort) -> Sorts
-        ensures { result ≡ sorts first second third fourth fifth }
-    {
-        Sorts {
-            first,
-            second,
-            third,
-            fourth,
-            fifth,
-        }
     }
 }
 
@@ -81,7 +64,7 @@ impl Statement {
             return false;
         };
         sorts.first.names_individual(individuals, self.first)
-            || self.shape != Statement::NESTED_INCLUSION
+            || self.shape != NESTED_INCLUSION
                 && sorts.second.names_individual(individuals, self.second)
             || sorts.third.names_individual(individuals, self.third)
             || sorts.fourth.names_individual(individuals, self.fourth)

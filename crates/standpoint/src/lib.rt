@@ -16,6 +16,7 @@ mod kinds;
 mod premises;
 mod refusal;
 mod rules;
+pub mod shape;
 mod sizes;
 mod statement;
 mod step;

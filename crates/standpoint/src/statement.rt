@@ -3,6 +3,8 @@ ghost use Rattle.std.specs.Prelude.{◌≡◌};
 ghost use Rattle.standpoint.specs.Lists.{Tells};
 ghost use Rattle.standpoint.specs.Statements.{Before, statement, sharper, intersection_sharper, nested_inclusion, possible_inclusion, existential_right, existential_left, conjunction_left, role_inclusion, role_chain};
 
+use crate::shape;
+
 // A statement: its shape, 1 to 9, and five numbers, unused ones 0; ordered by the fields in turn. The shape is no enum, since
 // files and callers may hand any byte, and a statement of no shape is refused.
 #[derive(Clone, Copy, PartialEq, Eq, PartialOrd, Ord)]
@@ -17,28 +19,9 @@ pub struct Statement {
 
 // A constructor for each shape, by the calculus' name for it.
 impl Statement {
-    // The shapes.
-    pub const SHARPER: u8 = 1;
-
-    pub const INTERSECTION_SHARPER: u8 = 2;
-
-    pub const NESTED_INCLUSION: u8 = 3;
-
-    pub const POSSIBLE_INCLUSION: u8 = 4;
-
-    pub const EXISTENTIAL_RIGHT: u8 = 5;
-
-    pub const EXISTENTIAL_LEFT: u8 = 6;
-
-    pub const CONJUNCTION_LEFT: u8 = 7;
-
-    pub const ROLE_INCLUSION: u8 = 8;
-
-    pub const ROLE_CHAIN: u8 = 9;
-
     // The contradiction: everything is nothing, everywhere.
     pub const CONTRADICTION: Statement = Statement {
-        shape: Statement::NESTED_INCLUSION,
+        shape: shape::NESTED_INCLUSION,
         first: 0,
         second: 0,
         third: 0,
@@ -50,63 +33,63 @@ impl Statement {
     pub fn sharper(s: u16, u: u16) -> Statement
         ensures { result ≡ sharper s u }
     {
-        Statement::numbered(Statement::SHARPER, s, u, 0, 0, 0)
+        Statement::numbered(shape::SHARPER, s, u, 0, 0, 0)
     }
 
     // What belongs to both s1 and s2 belongs to u.
     pub fn intersection_sharper(s1: u16, s2: u16, u: u16) -> Statement
         ensures { result ≡ intersection_sharper s1 s2 u }
     {
-        Statement::numbered(Statement::INTERSECTION_SHARPER, s1, s2, u, 0, 0)
+        Statement::numbered(shape::INTERSECTION_SHARPER, s1, s2, u, 0, 0)
     }
 
     // In t, each b is, throughout s, d wherever it is c.
     pub fn nested_inclusion(t: u16, b: u16, s: u16, c: u16, d: u16) -> Statement
         ensures { result ≡ nested_inclusion t b s c d }
     {
-        Statement::numbered(Statement::NESTED_INCLUSION, t, b, s, c, d)
+        Statement::numbered(shape::NESTED_INCLUSION, t, b, s, c, d)
     }
 
     // In t, each c is d somewhere in s.
     pub fn possible_inclusion(t: u16, c: u16, s: u16, d: u16) -> Statement
         ensures { result ≡ possible_inclusion t c s d }
     {
-        Statement::numbered(Statement::POSSIBLE_INCLUSION, t, c, s, d, 0)
+        Statement::numbered(shape::POSSIBLE_INCLUSION, t, c, s, d, 0)
     }
 
     // In s, each c has an r to some d.
     pub fn existential_right(s: u16, c: u16, r: u16, d: u16) -> Statement
         ensures { result ≡ existential_right s c r d }
     {
-        Statement::numbered(Statement::EXISTENTIAL_RIGHT, s, c, r, d, 0)
+        Statement::numbered(shape::EXISTENTIAL_RIGHT, s, c, r, d, 0)
     }
 
     // In s, what has an r to some c is d.
     pub fn existential_left(s: u16, r: u16, c: u16, d: u16) -> Statement
         ensures { result ≡ existential_left s r c d }
     {
-        Statement::numbered(Statement::EXISTENTIAL_LEFT, s, r, c, d, 0)
+        Statement::numbered(shape::EXISTENTIAL_LEFT, s, r, c, d, 0)
     }
 
     // In s, what is c1 and c2 is d.
     pub fn conjunction_left(s: u16, c1: u16, c2: u16, d: u16) -> Statement
         ensures { result ≡ conjunction_left s c1 c2 d }
     {
-        Statement::numbered(Statement::CONJUNCTION_LEFT, s, c1, c2, d, 0)
+        Statement::numbered(shape::CONJUNCTION_LEFT, s, c1, c2, d, 0)
     }
 
     // In s, r1 lies within r2.
     pub fn role_inclusion(s: u16, r1: u16, r2: u16) -> Statement
         ensures { result ≡ role_inclusion s r1 r2 }
     {
-        Statement::numbered(Statement::ROLE_INCLUSION, s, r1, r2, 0, 0)
+        Statement::numbered(shape::ROLE_INCLUSION, s, r1, r2, 0, 0)
     }
 
     // In s, r1 followed by r2 lies within r3.
     pub fn role_chain(s: u16, r1: u16, r2: u16, r3: u16) -> Statement
         ensures { result ≡ role_chain s r1 r2 r3 }
     {
-        Statement::numbered(Statement::ROLE_CHAIN, s, r1, r2, r3, 0)
+        Statement::numbered(shape::ROLE_CHAIN, s, r1, r2, r3, 0)
     }
 
     // Whether this statement stands before another. A word of its own beside `<`, for contracts that speak of this order.

@@ -3,6 +3,7 @@
 ghost use Rattle.std.specs.Prelude.{◌≡◌};
 ghost use Rattle.standpoint.specs.Conclusions.{sharper_transitive, sharper_than_both, lowered, lowered_inside};
 
+use crate::shape::{NESTED_INCLUSION, ROLE_CHAIN};
 use crate::statement::Statement;
 
 // Rule 2: What is sharper than t is sharper than u, where t is.
@@ -40,9 +41,7 @@ pub(super) fn lowered(x: Statement, q: Statement) -> Option<Statement>
     ensures { result ≡ lowered x q }
 {
     let s = q.first;
-    if (Statement::NESTED_INCLUSION..=Statement::ROLE_CHAIN).contains(&x.shape)
-        && q == Statement::sharper(s, x.first)
-    {
+    if (NESTED_INCLUSION..=ROLE_CHAIN).contains(&x.shape) && q == Statement::sharper(s, x.first) {
         Some(Statement { first: s, ..x })
     } else {
         None
