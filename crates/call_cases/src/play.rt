@@ -28,6 +28,7 @@ impl<K: StoredKind + Drop> Play<K> {
     pub(crate) fn new(heap: Global, kind: K) -> Play<K> {
         Play {
             kind,
+            // Sizes that the check refuses, until a line states others.
             sizes: Sizes::default(),
             accepted: Vec::new(heap),
             steps: Vec::new(heap),
