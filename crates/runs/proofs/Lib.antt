@@ -10,6 +10,7 @@ pub mod First
 pub mod Steps
 pub mod Modelled
 pub mod LetterLaws
+pub mod AnyKind
 pub mod Bare
 pub mod Graded
 pub mod Clash

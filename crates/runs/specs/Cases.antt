@@ -29,9 +29,9 @@ pub record ComesTo {G : Type 0} (a : Algebra G) (base : Base G) (rows n count : 
   pub stands : (later : Settled G) (stand : Stand) → Settling a base rows n [] later → Stands a base rows later stand → stand ≡ how
   pub consistent : (later : Settled G) → Settling a base rows n [] later → Unsettled later contradiction
 
--- with nothing accepted, on 7, 6, 5 and 4 rows
+-- with nothing accepted, on 7 rows or more, and on 6, 5 and 4
 pub record BareOnRows {G : Type 0} (a : Algebra G) : Type 0 where
-  pub seven : ComesTo a bare 7 10 7 Ended
+  pub seven : (rows : ℕ) → 7 ≤ rows → ComesTo a bare rows 10 7 Ended
   pub six : ComesTo a bare 6 10 4 Full
   pub five : ComesTo a bare 5 10 3 Full
   pub four : ComesTo a bare 4 10 3 Full
