@@ -1,5 +1,5 @@
 -- Where nothing is accepted, runs of any two kinds of grade know and settle the same statements.
-use Rattle.std.proofs.Common.{◌≡◌, ℕ, ◌≤◌, List, [], ◌∷◌, ◌++◌, map, length, sym, ap, subst, inl, inr, arith}
+use Rattle.std.proofs.Common.{◌≡◌, ℕ, ◌≤◌, length, subst, inl, inr, arith}
 use lib.ListN.{length-map}
 use Rattle.standpoint.specs.declared.statement.Statement.{Statement}
 use Rattle.standpoint.specs.Lists.{In}
@@ -17,6 +17,7 @@ module _ {G H : Type 0} (a : Algebra G) (b : Algebra H) where
   abbrev pub Within : Settled G → Settled H → Type 0
   Within settled other = (x : Statement) (g : G) → In settled (x, g) → (h : H) × In other (x, h)
 
+  -- then what is known in the one is known in the other, and if the one stands full, so does the other
   pub known_too : {settled : Settled G} {other : Settled H} → Within settled other → {x : Statement} {g : G} → Offers a bare settled x g → Known b bare other x
   known_too within (Offers.leaf (Leaf.accepted m f)) = elim m [ ]
   known_too within (Offers.leaf (Leaf.tautology t)) = (b.start, Offers.leaf (Leaf.tautology t))
@@ -40,11 +41,16 @@ module _ {G H : Type 0} (a : Algebra G) (b : Algebra H) where
       | inr old ↦ settled_too run x g old
     ]
 
+    -- so it settles no more of them
     pub settled_no_longer : {settled : Settled G} → Run a bare settled → length settled ≤ length other
     settled_no_longer {settled} run =
-        let e : length (statements settled) ≡ length settled = simp length-map in
-        let f : length (statements other) ≡ length other = simp length-map in
-        omega (arith, e, f, no_longer (statements settled) (statements other) (apart_run a bare run) (λ x m.
-          let w = of_map _ settled x m in
-          let k = settled_too run w.0.0 w.0.1 w.1 in
-          subst (In (statements other)) w.2 (in_map _ other (w.0.0, k.0) k.1)))
+        let fewer : length (statements settled) ≤ length (statements other) = no_longer _ _ (apart_run a bare run) within in
+        let here : length (statements settled) ≡ length settled = simp length-map in
+        let there : length (statements other) ≡ length other = simp length-map in
+        omega (arith, fewer, here, there)
+      where
+        within : (x : Statement) → In (statements settled) x → In (statements other) x
+        within x m =
+            let w = of_map _ settled x m in
+            let k = settled_too run w.0.0 w.0.1 w.1 in
+            subst (In (statements other)) w.2 (in_map _ other (w.0.0, k.0) k.1)

@@ -11,6 +11,7 @@ pub mod Steps
 pub mod Modelled
 pub mod LetterLaws
 pub mod AnyKind
+pub mod AtStart
 pub mod Bare
 pub mod Graded
 pub mod Clash

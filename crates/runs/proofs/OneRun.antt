@@ -1,5 +1,5 @@
 -- How a run goes on is determined.
-use Rattle.std.proofs.Common.{◌≡◌, ℕ, zero, suc, ◌+◌, ◌≤◌, ◌⊎◌, [], ◌∷◌, ◌++◌, length, sym, refl, subst, inl, inr, append_assoc, append-nil, arith, length-append}
+use Rattle.std.proofs.Common.{◌≡◌, ℕ, zero, suc, ◌+◌, ◌≤◌, ◌⊎◌, [], ◌∷◌, ◌++◌, length, sym, refl, ap, subst, inl, inr, append_assoc, append-nil, arith, length-append}
 use Rattle.standpoint.specs.declared.statement.Statement.{Statement}
 use Rattle.standpoint.specs.Algebra.{Algebra, Laws}
 use Rattle.standpoint.specs.Statements.{Before}
@@ -85,6 +85,17 @@ settling_run a base {settled = settled} run no_more_asked = subst (Run a base) (
 settling_run a base {settled = settled} run (no_more_to_do _) = subst (Run a base) (sym (append-nil settled)) run
 settling_run a base run (one_more {settled} {later} {x} {g} room next rest) =
     subst (Run a base) (append_assoc settled ((x, g) ∷ []) later) (settling_run a base (settles run next) rest)
+
+-- a settling stops once it has settled as often as it was asked to, or where the run stands full or ended
+pub stops : {G : Type 0} (a : Algebra G) (base : Base G) {rows n : ℕ} {settled later : Settled G} → Settling a base rows n settled later →
+    (length later ≡ n) ⊎ (Stands a base rows (settled ++ later) Full ⊎ Stands a base rows (settled ++ later) Ended)
+stops a base no_more_asked = inl refl
+stops a base {rows} (no_more_to_do {settled} stands) =
+    inr (subst (λ z. Stands a base rows z Full ⊎ Stands a base rows z Ended) (sym (append-nil settled)) stands)
+stops a base {rows} (one_more {settled} {later} {x} {g} room next rest) = elim (stops a base rest) [
+  | inl e ↦ inl (ap suc e)
+  | inr stands ↦ inr (subst (λ z. Stands a base rows z Full ⊎ Stands a base rows z Ended) (append_assoc settled ((x, g) ∷ []) later) stands)
+]
 
 -- a run that ended ends so on more rows too, however often it is asked to settle
 module _ {G : Type 0} (a : Algebra G) (base : Base G) {rows more : ℕ} (larger : rows ≤ more) where
