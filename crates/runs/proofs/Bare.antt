@@ -1,4 +1,4 @@
--- What runs with nothing accepted come to, by a computed run that has one grade.
+-- What runs with nothing accepted come to, by a computed run with one grade.
 use Rattle.std.proofs.Common.{◌≡◌, ℕ, ◌≤◌, List, [], ◌∷◌, map, length, sym, refl, ap, ◌∙◌, subst, inl, inr, arith, lit<}
 use lib.ListN.{length-map}
 use Rattle.standpoint.specs.declared.statement.Statement.{Statement}
