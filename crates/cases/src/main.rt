@@ -1,6 +1,7 @@
 //! Compares what the library makes of each recorded file with the recorded print.
 #![tactic(auto)]
 
+use answers::print_worked;
 use blockfile::{LoadFault, StoredKind, load};
 use reasoner::settle;
 use saturation::{Row, Table};
@@ -9,8 +10,7 @@ use standpoint::{Kind, Letter, Odds, Tally};
 use std::alloc::{AllocError, Global};
 use std::{fs, io};
 
-#[cfg(test)]
-mod joins;
+mod answers;
 
 const ROWS: usize = 4096;
 
@@ -87,5 +87,6 @@ fn main(rt: HostRuntime) -> io::Result<()> {
             println!(rt; "{name} differs")?;
         }
     }
-    println!(rt; "{agree} of {all} files agree")
+    println!(rt; "{agree} of {all} files agree")?;
+    print_worked(&rt)
 }

@@ -9,11 +9,3 @@ pub mod Waiting
 pub mod First
 pub mod Steps
 pub mod Modelled
-pub mod LetterLaws
-pub mod AnyKind
-pub mod AtStart
-pub mod Bare
-pub mod Graded
-pub mod Clash
-pub mod Detour
-pub mod Cases

@@ -1,4 +1,3 @@
 pub mod Runs
 pub mod Model
 pub mod Laws
-pub mod Cases

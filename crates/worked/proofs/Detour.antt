@@ -11,9 +11,9 @@ use Rattle.standpoint.specs.Rules.{Tautology, Rule, in_standpoint}
 use Rattle.standpoint.specs.Rules.Tautology.{sharper_than_all, sharper_than_itself, within_itself, within_top, role_within_itself}
 use Rattle.standpoint.specs.Rules.Rule.{role_transitive, sharper_transitive, sharper_than_both, lowered, lowered_inside, inside_transitive, subsumed_nested, subsumed_possible, possible_widened, necessary_then_nested, necessary_then_possible, possible_then_nested, possible_then_possible, existential_widened, existential_chained, existential_met, conjunction_met, necessary_here, of_all_things, existential_empty, necessary_empty, possible_empty, individual_empty}
 use Rattle.standpoint.specs.Derivations.{Leaf, Derives}
-use Rattle.standpoint.specs.GradeLaws.{same_made, tally_laws}
-use Rattle.runs.specs.Cases.{detour, DetourWins}
-use Rattle.runs.proofs.Graded.{graded}
+use Rattle.standpoint.specs.GradeLaws.{same_made}
+use Rattle.reasoner.specs.Asking.{BestGrade}
+use Rattle.worked.proofs.Bases.{detour}
 
 -- no derivation of s sharper than u has a smaller tally
 abbrev least : ℕ → ℕ → ℕ
@@ -93,8 +93,7 @@ detour_derives =
     subst (Derives tally detour (sharper 1 2)) (same_made tally_grade (min-le_right 2 4294967295) (lit≤ tt) refl)
     (Derives.two sharper_transitive
     (Derives.leaf (Leaf.accepted (inr (inl refl)) (lit< tt, lit< tt, refl, refl, refl)))
-    (Derives.leaf (Leaf.accepted (inr (inr (inl refl))) (lit< tt, lit< tt, refl, refl, refl))))
+    (Derives.leaf (Leaf.accepted (inl refl) (lit< tt, lit< tt, refl, refl, refl))))
 
-pub detour_wins : DetourWins
-detour_wins =
-    graded tally tally_laws detour (sharper 1 2) (tally_grade 2 (lit≤ tt)) detour_derives (λ d tree. le-leb 2 d.value (derived_bound tree))
+pub detour_wins : BestGrade tally detour (sharper 1 2) (tally_grade 2 (lit≤ tt))
+detour_wins = (detour_derives, λ d tree. le-leb 2 d.value (derived_bound tree))

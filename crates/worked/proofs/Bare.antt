@@ -1,27 +1,24 @@
 -- What runs with nothing accepted come to, by a computed run with one grade.
-use Rattle.std.proofs.Common.{◌≡◌, ℕ, ◌≤◌, List, [], ◌∷◌, map, length, sym, refl, ap, ◌∙◌, subst, inl, inr, arith, lit<}
+use Rattle.std.proofs.Common.{◌≡◌, ℕ, ◌≤◌, List, [], ◌∷◌, length, refl, ap, ◌∙◌, subst, inl, inr, arith, lit<}
 use lib.ListN.{length-map}
 use Rattle.standpoint.specs.declared.statement.Statement.{Statement}
-use Rattle.standpoint.specs.declared.kinds.grades.TallyGrade.{TallyGrade}
 use Rattle.standpoint.specs.Lists.{◌&◌}
 use Rattle.standpoint.specs.Lists.All.{none}
 use Rattle.standpoint.specs.Algebra.{Algebra, Laws}
-use Rattle.standpoint.specs.Grades.{tally}
 use Rattle.standpoint.specs.Statements.{same, sharper, nested_inclusion, contradiction}
 use Rattle.standpoint.specs.Rules.Tautology.{sharper_than_all, within_itself, within_top}
-use Rattle.standpoint.specs.GradeLaws.{tally_laws}
 use Rattle.runs.specs.declared.Stand.{Stand}
 use Rattle.runs.specs.declared.Stand.TheVariants.{Ended, Full}
 use Rattle.runs.specs.Runs.{Settled, Unsettled, Run, AllSettled, Stands, Settling}
 use Rattle.runs.specs.Runs.Run.{fresh}
 use Rattle.runs.specs.Model.{smaller_or, each, model}
-use Rattle.runs.specs.Cases.{bare, ComesTo, BareOnRows, bare_lines, BareSettles}
+use Rattle.worked.proofs.Bases.{bare, ComesTo, BareOnRows}
 use Rattle.runs.proofs.Offers.{statements}
-use Rattle.runs.proofs.OneRun.{stops, one_settling, one_stand, settling_run, still_ended, ended_settling}
+use Rattle.runs.proofs.OneRun.{stops, one_settling, one_stand, settling_run, still_ended}
 use Rattle.runs.proofs.Told.{settled_told}
 use Rattle.runs.proofs.Modelled.{model_settles}
-use Rattle.runs.proofs.AnyKind.{full_too, settled_too, settled_no_longer}
-use Rattle.runs.proofs.AtStart.{single, single_laws, Tautologies, at_start, to_start, settling_too}
+use Rattle.worked.proofs.AnyKind.{full_too, settled_too, settled_no_longer}
+use Rattle.worked.proofs.AtStart.{single, single_laws, Tautologies, at_start, to_start, settling_too}
 
 -- the computed run with one grade, on so many rows
 abbrev settled_on : ℕ → Settled (Unit {0})
@@ -111,22 +108,3 @@ module _ {G : Type 0} (a : Algebra G) (laws : Laws a) where
       first_three : {xs : List Statement} → Tautologies xs →
           Tautologies (sharper 0 0 ∷ nested_inclusion 0 0 0 0 0 ∷ nested_inclusion 0 0 0 1 0 ∷ xs)
       first_three ts = sharper_than_all (lit< tt) & within_itself (lit< tt) & within_top (lit< tt) & ts
-
--- the computed run that ends on 7 rows, with its tallies
-lines : map (λ (o : Statement × TallyGrade). (o.0, o.1.value)) (model tally bare 7 7).0 ≡ bare_lines
-unfolding same smaller_or each
-lines = refl
-
-ends : (model tally bare 7 7).1 ≡ Ended
-unfolding same smaller_or each
-ends = refl
-
-pub bare_settles : BareSettles
-bare_settles rows n large often later s =
-    let run = (model tally bare 7 7).0 in
-    let computed = model_settles tally tally_laws bare 7 7 in
-    let ended : Stands tally bare 7 run Ended = subst (Stands tally bare 7 run) ends computed.1 in
-    let here : later ≡ run = one_settling tally tally_laws bare rows n [] later run s (ended_settling tally bare large n often computed.0 ended) in (
-      ap (map (λ (o : Statement × TallyGrade). (o.0, o.1.value))) here ∙ lines,
-      subst (λ z. Stands tally bare rows z Ended) (sym here) (still_ended tally bare large ended),
-    )

@@ -8,11 +8,11 @@ use Rattle.standpoint.specs.Rules.{Tautology}
 use Rattle.standpoint.specs.Derivations.{Leaf}
 use Rattle.runs.specs.Runs.{Settled, Offers, Next, Settling}
 use Rattle.runs.specs.Runs.Settling.{no_more_asked, no_more_to_do, one_more}
-use Rattle.runs.specs.Cases.{bare}
+use Rattle.worked.proofs.Bases.{bare}
 use Rattle.runs.proofs.Grades.{no_worse_itself, no_worse_same, above_first}
 use Rattle.runs.proofs.Lists.{of_map, in_map}
 use Rattle.runs.proofs.Offers.{statements}
-use Rattle.runs.proofs.AnyKind.{Within, known_too, full_too}
+use Rattle.worked.proofs.AnyKind.{Within, known_too, full_too}
 
 -- the kind with one grade
 abbrev pub single : Algebra (Unit {0})

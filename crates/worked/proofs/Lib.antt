@@ -1,0 +1,17 @@
+pub mod LetterLaws
+pub mod Bases
+pub mod AnyKind
+pub mod AtStart
+pub mod Bare
+pub mod Graded
+pub mod Clash
+pub mod Detour
+pub mod Ending
+pub mod Calling
+pub mod Outcomes
+pub mod Settling
+pub mod BareCase
+pub mod ClashCase
+pub mod DetourCase
+pub mod Together
+pub mod Replaying

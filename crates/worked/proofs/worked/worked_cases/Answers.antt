@@ -1,0 +1,5 @@
+use Rattle.worked.proofs.Together.{worked_cases}
+use Rattle.worked.proofs.worked.worked_cases.Goals as goal
+
+pub returns-clause-cases : goal.returns-clause-cases
+returns-clause-cases g c = worked_cases (g.K.Kind.algebra c.args.kind.now) (g.met.K.Kind.lawful c.args.kind.now)
