@@ -8,11 +8,17 @@ use score::Score;
 use std::fs;
 
 mod answer;
+mod basis;
 mod call;
 mod fault;
+mod kinds;
+mod loading;
+mod meaning;
 mod performing;
 mod play;
 mod reading;
+mod replayed;
+mod replaying;
 mod score;
 mod words;
 
@@ -21,12 +27,11 @@ fn main(rt: HostRuntime) -> Result<(), Fault> {
 }
 
 fn run(rt: &HostRuntime) -> Result<(), Fault> {
-    let heap = rt.alloc();
     let text = fs::read_to_string(rt, "calls.txt")?;
-    let cases = read_cases(heap, text.as_str())?;
+    let cases = read_cases(rt.alloc(), text.as_str())?;
     let mut score = Score::default();
     for case in &cases {
-        perform_case(heap, case, &mut score)?;
+        perform_case(rt, case, &mut score)?;
     }
     print(rt, score)
 }
@@ -39,7 +44,6 @@ fn print(rt: &HostRuntime, score: Score) -> Result<(), Fault> {
     }
     let agree = score.agree;
     let answers = score.answers;
-    let skipped = score.skipped;
-    println!(rt; "{agree} of {answers} answers agree, {skipped} lines skipped")?;
+    println!(rt; "{agree} of {answers} answers agree")?;
     Ok(())
 }

@@ -1,66 +1,52 @@
-// A case that is being performed.
+// The calls of a case that need no reasoner.
 use crate::answer::Answer;
+use crate::basis::Basis;
 use crate::call::Call;
 use crate::fault::Fault;
+use crate::kinds::grade;
 use blockfile::StoredKind;
-use standpoint::{Sizes, Statement, Step, check};
+use standpoint::{Sizes, Statement, Step};
 use std::alloc::Global;
 
-// What came of a line.
-#[derive(Clone, Copy)]
-pub enum Outcome {
-    Answered(Answer),
-    // The call has no answer.
-    Performed,
-    Skipped,
-}
-
-// The kind of the case, and the check that its lines have gathered so far.
+// The check that the lines have gathered so far.
 #[derive(Drop)]
-pub struct Play<K: StoredKind + Drop> {
-    kind: K,
-    sizes: Sizes,
-    accepted: Vec<(Statement, K::Grade)>,
+pub struct Play<'a, K: StoredKind + Drop> {
+    basis: Basis<'a, K>,
     steps: Vec<Step<K::Grade>>,
 }
 
-impl<K: StoredKind + Drop> Play<K> {
-    pub(crate) fn new(heap: Global, kind: K) -> Play<K> {
+impl<'a, K: StoredKind + Drop> Play<'a, K> {
+    pub(crate) fn new(heap: Global, kind: &'a K) -> Play<'a, K> {
         Play {
-            kind,
-            // Sizes that the check refuses, until a line states others.
-            sizes: Sizes::default(),
-            accepted: Vec::new(heap),
+            basis: Basis::new(heap, kind),
             steps: Vec::new(heap),
         }
     }
 
-    pub(crate) fn perform(&mut self, call: Call) -> Result<Outcome, Fault> {
-        Ok(match call {
+    // The answer to a call, if it has one.
+    pub(crate) fn perform(&mut self, call: Call) -> Result<Option<Answer>, Fault> {
+        match call {
             Call::Check(sizes) => self.check(sizes),
             Call::Accept(statement, code) => self.accept(statement, code)?,
             Call::Step(step) => self.step(step)?,
-            Call::Verdict => Outcome::Answered(self.verdict()),
-            Call::Start => Outcome::Answered(self.start()),
-            Call::Join(a, b) => Outcome::Answered(self.join(a, b)?),
-            Call::NoWorse(a, b) => Outcome::Answered(self.no_worse(a, b)?),
-            Call::Skipped => Outcome::Skipped,
-        })
+            Call::Verdict => return Ok(Some(self.verdict())),
+            Call::Start => return Ok(Some(self.start())),
+            Call::Join(a, b) => return Ok(Some(self.join(a, b)?)),
+            Call::NoWorse(a, b) => return Ok(Some(self.no_worse(a, b)?)),
+        }
+        Ok(None)
     }
 
-    fn check(&mut self, sizes: Sizes) -> Outcome {
-        self.sizes = sizes;
-        self.accepted.clear();
+    fn check(&mut self, sizes: Sizes) {
+        self.basis.begin(sizes);
         self.steps.clear();
-        Outcome::Performed
     }
 
-    fn accept(&mut self, statement: Statement, code: u32) -> Result<Outcome, Fault> {
-        self.accepted.push((statement, grade::<K>(code)?))?;
-        Ok(Outcome::Performed)
+    fn accept(&mut self, statement: Statement, code: u32) -> Result<(), Fault> {
+        self.basis.accept(statement, grade::<K>(code)?)
     }
 
-    fn step(&mut self, step: Step<u32>) -> Result<Outcome, Fault> {
+    fn step(&mut self, step: Step<u32>) -> Result<(), Fault> {
         self.steps.push(Step {
             rule: step.rule,
             first: step.first,
@@ -69,32 +55,27 @@ impl<K: StoredKind + Drop> Play<K> {
             statement: step.statement,
             grade: grade::<K>(step.grade)?,
         })?;
-        Ok(Outcome::Performed)
+        Ok(())
     }
 
     fn verdict(&self) -> Answer {
-        match check(&self.kind, self.sizes, &self.accepted, &self.steps) {
+        match self.basis.check(&self.steps) {
             Ok(grade) => Answer::Passes(K::encode(grade)),
             Err(refusal) => Answer::Refused(refusal),
         }
     }
 
     fn start(&self) -> Answer {
-        Answer::Code(K::encode(self.kind.start()))
+        Answer::Code(K::encode(self.basis.kind.start()))
     }
 
     fn join(&self, a: u32, b: u32) -> Result<Answer, Fault> {
-        let joined = self.kind.join(grade::<K>(a)?, grade::<K>(b)?);
+        let joined = self.basis.kind.join(grade::<K>(a)?, grade::<K>(b)?);
         Ok(Answer::Code(K::encode(joined)))
     }
 
     fn no_worse(&self, a: u32, b: u32) -> Result<Answer, Fault> {
-        let truth = self.kind.no_worse(grade::<K>(a)?, grade::<K>(b)?);
+        let truth = self.basis.kind.no_worse(grade::<K>(a)?, grade::<K>(b)?);
         Ok(Answer::Truth(truth))
     }
-}
-
-// The grade of a code.
-pub(crate) fn grade<K: StoredKind>(code: u32) -> Result<K::Grade, Fault> {
-    K::decode(code).map_err(|_| Fault::NoGrade(code))
 }

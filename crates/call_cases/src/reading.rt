@@ -1,23 +1,34 @@
 // Recorded cases, read from their text.
-use crate::call::{Call, KindName, Line};
+use crate::call::{Call, Line, ReasonerCall};
 use crate::fault::Fault;
-use crate::words::Words;
+use crate::kinds::KindName;
+use crate::meaning::{Said, read_line};
 use std::alloc::Global;
 
-// A case: its number, its kind and its calls in order.
+// A case: its number, its kind, and its calls in order.
 #[derive(Drop)]
 pub struct Case<'a> {
     pub number: u32,
     // None until a line names it.
     pub kind: Option<KindName>,
-    pub lines: Vec<Line<'a>>,
+    // The calls that need no reasoner.
+    pub lines: Vec<Line<'a, Call>>,
+    pub reasoners: Vec<Reasoner<'a>>,
 }
 
-// What a line says, if it is not blank.
-enum Said<'a> {
-    Case(u32),
-    Kind(KindName),
-    Call(Call, Option<&'a str>),
+// A reasoner: how many rows it has, and its calls in order.
+#[derive(Drop)]
+pub struct Reasoner<'a> {
+    pub rows: usize,
+    pub lines: Vec<Line<'a, ReasonerCall<'a>>>,
+}
+
+impl<'a> Reasoner<'a> {
+    // Whether a file is loaded.
+    pub(crate) fn loads(&self) -> bool {
+        let mut calls = self.lines.iter();
+        calls.any(|line| matches!(line.call, ReasonerCall::Load(_)))
+    }
 }
 
 // All cases of the text; refuses the first line that has no meaning.
@@ -25,11 +36,21 @@ pub(crate) fn read_cases(heap: Global, text: &str) -> Result<Vec<Case<'_>>, Faul
     let mut cases = Vec::new(heap);
     for (index, line) in text.lines().enumerate() {
         let number = index.saturating_add(1);
-        if let Some(said) = read_line(line, number)? {
-            take_line(heap, &mut cases, number, said)?;
+        let (line, _) = line.split_once("#").unwrap_or((line, ""));
+        let (call, recorded) = parts(line);
+        if let Some(said) = read_line(call, number)? {
+            take_line(heap, &mut cases, number, said, recorded)?;
         }
     }
     Ok(cases)
+}
+
+// The call of a line, and the recorded answer, if there is one.
+fn parts(line: &str) -> (&str, Option<&str>) {
+    match line.split_once(" -> ") {
+        Some((call, recorded)) => (call, Some(recorded)),
+        None => (line, None),
+    }
 }
 
 fn take_line<'a>(
@@ -37,15 +58,26 @@ fn take_line<'a>(
     cases: &mut Vec<Case<'a>>,
     number: usize,
     said: Said<'a>,
+    recorded: Option<&'a str>,
 ) -> Result<(), Fault> {
     match said {
         Said::Case(number) => cases.push(Case {
             number,
             kind: None,
             lines: Vec::new(heap),
+            reasoners: Vec::new(heap),
         })?,
-        Said::Kind(kind) => last(cases, number)?.kind = Some(kind),
-        Said::Call(call, recorded) => last(cases, number)?.lines.push(Line {
+        Said::Kind(kind) => last_case(cases, number)?.kind = Some(kind),
+        Said::Make(rows) => last_case(cases, number)?.reasoners.push(Reasoner {
+            rows,
+            lines: Vec::new(heap),
+        })?,
+        Said::Call(call) => last_case(cases, number)?.lines.push(Line {
+            number,
+            call,
+            recorded,
+        })?,
+        Said::ReasonerCall(call) => last_reasoner(cases, number)?.lines.push(Line {
             number,
             call,
             recorded,
@@ -55,42 +87,18 @@ fn take_line<'a>(
 }
 
 // The case to which the line belongs.
-fn last<'a, 'b>(cases: &'b mut Vec<Case<'a>>, number: usize) -> Result<&'b mut Case<'a>, Fault> {
+fn last_case<'a, 'b>(
+    cases: &'b mut Vec<Case<'a>>,
+    number: usize,
+) -> Result<&'b mut Case<'a>, Fault> {
     cases.last_mut().ok_or(Fault::Unread(number))
 }
 
-fn read_line(line: &str, number: usize) -> Result<Option<Said<'_>>, Fault> {
-    let (line, _) = line.split_once("#").unwrap_or((line, ""));
-    let (text, recorded) = match line.split_once(" -> ") {
-        Some((text, recorded)) => (text, Some(recorded)),
-        None => (line, None),
-    };
-    let mut words = Words::new(text);
-    let Some(name) = words.word() else {
-        return Ok(None);
-    };
-    let said = meaning(name, &mut words, recorded);
-    Ok(Some(said.ok_or(Fault::Unread(number))?))
-}
-
-fn meaning<'a>(name: &str, words: &mut Words<'_>, recorded: Option<&'a str>) -> Option<Said<'a>> {
-    Some(match name {
-        "case" => Said::Case(words.number()?),
-        "kind" => Said::Kind(words.kind_name()?),
-        _ => Said::Call(call(name, words)?, recorded),
-    })
-}
-
-fn call(name: &str, words: &mut Words<'_>) -> Option<Call> {
-    Some(match name {
-        "check" => Call::Check(words.sizes()?),
-        "accept" => Call::Accept(words.statement()?, words.number()?),
-        "step" => Call::Step(words.step()?),
-        "verdict" => Call::Verdict,
-        "start" => Call::Start,
-        "join" => Call::Join(words.number()?, words.number()?),
-        "noworse" => Call::NoWorse(words.number()?, words.number()?),
-        "make" | "begin" | "add" | "settle" | "ask" | "explain" | "load" => Call::Skipped,
-        _ => return None,
-    })
+// The reasoner to which the line belongs.
+fn last_reasoner<'a, 'b>(
+    cases: &'b mut Vec<Case<'a>>,
+    number: usize,
+) -> Result<&'b mut Reasoner<'a>, Fault> {
+    let case = last_case(cases, number)?;
+    case.reasoners.last_mut().ok_or(Fault::Unread(number))
 }

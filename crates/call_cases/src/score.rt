@@ -1,14 +1,15 @@
 // How the answers compare with the recorded ones.
+use crate::answer::Answer;
 use crate::call::Line;
 use crate::fault::Fault;
-use crate::play::Outcome;
 use std::alloc::Global;
 
 #[derive(Clone, Copy, Default)]
 pub struct Score {
+    // The case whose answers are compared now.
+    pub case: u32,
     pub agree: u64,
     pub answers: u64,
-    pub skipped: u64,
     pub first_difference: Option<Difference>,
 }
 
@@ -20,31 +21,30 @@ pub struct Difference {
 }
 
 impl Score {
-    // Counts what came of a line of the case.
-    pub(crate) fn count(
+    // Counts what a line answers, if anything, and what was recorded.
+    pub(crate) fn count<C>(
         &mut self,
         heap: Global,
-        case: u32,
-        line: Line<'_>,
-        outcome: Outcome,
+        line: &Line<'_, C>,
+        answer: Option<Answer>,
     ) -> Result<(), Fault> {
-        match outcome {
-            Outcome::Performed => {}
-            Outcome::Skipped => self.skipped = self.skipped.saturating_add(1),
-            Outcome::Answered(answer) => {
-                let text = format!(in heap; "{answer}")?;
-                self.compare(text.as_str(), case, line);
-            }
-        }
+        let text = match answer {
+            Some(answer) => Some(format!(in heap; "{answer}")?),
+            None => None,
+        };
+        self.compare(line.number, text.as_deref(), line.recorded);
         Ok(())
     }
 
-    fn compare(&mut self, answer: &str, case: u32, line: Line<'_>) {
+    fn compare(&mut self, line: usize, answer: Option<&str>, recorded: Option<&str>) {
+        if answer.is_none() && recorded.is_none() {
+            return;
+        }
         self.answers = self.answers.saturating_add(1);
-        if line.recorded == Some(answer) {
+        if answer == recorded {
             self.agree = self.agree.saturating_add(1);
         } else if self.first_difference.is_none() {
-            let line = line.number;
+            let case = self.case;
             self.first_difference = Some(Difference { case, line });
         }
     }

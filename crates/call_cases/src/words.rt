@@ -1,5 +1,5 @@
 // The words of a line, taken one by one; `None` where the next word is not what is wanted.
-use crate::call::{Base, KindName, Surcharges};
+use crate::kinds::{Base, KindName, Surcharges};
 use standpoint::{Sizes, Statement, Step};
 use std::str::{FromStr, SplitWhitespace};
 
@@ -70,17 +70,6 @@ impl<'a> Words<'a> {
             }
         }
         None
-    }
-}
-
-impl Surcharges {
-    // These with one more below them.
-    fn around(self, code: u32) -> Option<Surcharges> {
-        match self {
-            Surcharges::Zero => Some(Surcharges::One(code)),
-            Surcharges::One(outer) => Some(Surcharges::Two { outer, inner: code }),
-            Surcharges::Two { .. } => None,
-        }
     }
 }
 
