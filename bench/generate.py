@@ -22,7 +22,7 @@ SORTS = {  # of the numbers of each shape: standpoint, concept, role
 }
 GRADES = {"T": range(20), "L": range(5), "O": range(200, 256)}
 MOST_RECORDS = 127 * 41
-TRIES = 60
+TRIES = 40
 
 
 @dataclass

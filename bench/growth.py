@@ -18,7 +18,7 @@ HEAD = f"{'mix':14} {'rows':>6} {'stand':>6} {'settled':>8} {'ours ms':>10} {'tw
 def options():
     parser = argparse.ArgumentParser(description=__doc__, formatter_class=argparse.RawDescriptionHelpFormatter)
     parser.add_argument("--rows", type=int, nargs="+", default=[256, 1024, 4096, 16384, 65536])
-    parser.add_argument("--mixes", nargs="+", default=["paths", "roles", "everything"], choices=list(MIXES))
+    parser.add_argument("--mixes", nargs="+", default=["nested", "roles", "everything"], choices=list(MIXES))
     parser.add_argument("--kind", default="T", choices="TLO")
     parser.add_argument("--runs", type=int, default=3)
     parser.add_argument("--seed", type=int, default=1)
