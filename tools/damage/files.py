@@ -1,7 +1,8 @@
 """What a block file may suffer: each damage takes the file and a source of chance."""
+import itertools
 import struct
 
-BLOCK, RECORD, LONGEST = 512, 12, 65536
+BLOCK, RECORD, LONGEST, MOST_RECORDS = 512, 12, 65536, 127 * 41
 
 
 def sums_mended(data):
@@ -86,6 +87,17 @@ def blocks_shuffled(data, rng):
     return b"".join(blocks) if rng.random() < 0.5 else sums_mended(renumbered(blocks))
 
 
+def too_many_records(data, rng):
+    """Role chains in place of the records, more than there are rows; in half of the files one record is damaged as well."""
+    chains = list(itertools.product([9], range(2), range(16), range(16), range(16), [0]))
+    records = [bytes(chain) + struct.pack(">Ixx", 1) for chain in rng.sample(chains, rng.randrange(4100, MOST_RECORDS))]
+    groups = [records[at:at + 41] for at in range(0, len(records), 41)]
+    blocks = [data[:5] + bytes([0, 0, 0, 2, 20, 16, 0])]
+    blocks += [data[:5] + bytes([len(group), 0, 0]) + b"".join(group) for group in groups]
+    full = sums_mended(renumbered([block.ljust(BLOCK, b"\0") for block in blocks]))
+    return full if rng.random() < 0.5 else record_changed(full, rng)
+
+
 def with_sums(damage):
     return lambda data, rng: sums_mended(damage(data, rng))
 
@@ -103,4 +115,5 @@ DAMAGES = {
     "head changed": head_changed,
     "record changed": record_changed,
     "blocks shuffled": blocks_shuffled,
+    "too many records": too_many_records,
 }
