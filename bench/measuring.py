@@ -1,4 +1,5 @@
 """Builds the programs, and measures what they take."""
+import glob
 import os
 import statistics
 import subprocess
@@ -12,10 +13,15 @@ OUT = os.path.join(BENCH, "out")
 
 
 def build_twin():
+    """Builds the twin, and tries it on all recorded files."""
     os.makedirs(OUT, exist_ok=True)
     built = os.path.join(OUT, "twin")
     source = os.path.join(BENCH, "twin", "main.rs")
     subprocess.run(["rustc", "--edition", "2024", "-O", source, "-o", built], check=True)
+    for recorded in glob.glob(os.path.join(ROOT, "crates", "cases", "data", "*.out")):
+        with open(recorded, "rb") as expected:
+            if output([built], recorded[:-3] + "blk") != expected.read():
+                fail(f"the twin does not print {recorded}")
     return built
 
 
