@@ -2,8 +2,10 @@
 import os
 import resource
 import subprocess
+import tempfile
 import threading
 
+from files import LONGEST
 from running import SECONDS, Wrong, nothing_printed, run, told
 
 
@@ -14,6 +16,17 @@ def empty_input(ours, example):
 def endless_device(ours, example):
     with open("/dev/zero", "rb") as zeros:
         return told(*run(ours, stdin=zeros))
+
+
+def long_file(ours, example):
+    """One byte more than the longest sound file is read, and no more."""
+    with tempfile.TemporaryFile() as file:
+        file.truncate(1 << 30)
+        word = told(*run(ours, stdin=file))
+        read = os.lseek(file.fileno(), 0, os.SEEK_CUR)
+    if read > LONGEST + 1:
+        raise Wrong(f"reads {read} bytes")
+    return word
 
 
 def fed(ours, pieces):
@@ -111,6 +124,7 @@ STREAMS = {
     "empty input": empty_input,
     "endless device": endless_device,
     "endless pipe": endless_pipe,
+    "long file": long_file,
     "byte by byte": byte_by_byte,
     "input is a folder": input_is_folder,
     "closed input": failing("<&-"),
