@@ -3,6 +3,7 @@ use crate::fault::Fault;
 use standpoint::{Kind, Refusal, Sizes, Statement, Step, check};
 use std::alloc::Global;
 
+// Sizes and accepted statements, with the kind of their grades.
 #[derive(Drop)]
 pub struct Basis<'a, K: Kind + Drop> {
     pub kind: &'a K,

@@ -3,6 +3,7 @@
 use std::alloc::{AllocError, AllocFailed};
 use std::io;
 
+// What stops the program.
 #[derive(Debug, Drop)]
 pub enum Fault {
     Failed(io::Error),

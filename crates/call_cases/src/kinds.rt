@@ -2,6 +2,7 @@
 use crate::fault::Fault;
 use blockfile::StoredKind;
 
+// A kind as a case names it.
 #[derive(Clone, Copy)]
 pub struct KindName {
     pub base: Base,

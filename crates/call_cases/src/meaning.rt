@@ -4,6 +4,7 @@ use crate::fault::Fault;
 use crate::kinds::KindName;
 use crate::words::Words;
 
+// What a line says.
 #[derive(Clone, Copy)]
 pub enum Said<'a> {
     Case(u32),

@@ -4,6 +4,7 @@ use crate::call::Line;
 use crate::fault::Fault;
 use std::alloc::Global;
 
+// How many answers agree, of how many.
 #[derive(Clone, Copy, Default)]
 pub struct Score {
     // The case whose answers are compared now.

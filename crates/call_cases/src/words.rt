@@ -3,6 +3,7 @@ use crate::kinds::{Base, KindName, Surcharges};
 use standpoint::{Sizes, Statement, Step};
 use std::str::{FromStr, SplitWhitespace};
 
+// The words that are left of a line.
 #[derive(Drop)]
 pub struct Words<'a> {
     rest: SplitWhitespace<'a>,

@@ -6,6 +6,7 @@ use runs::Stand;
 use saturation::{Phase, Table};
 use standpoint::{Refusal, Statement};
 
+// What ask answers.
 #[derive(Clone, Copy)]
 pub enum Answer<G: Clone + Copy + Drop> {
     // The grade at which the statement is settled.

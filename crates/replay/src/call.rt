@@ -3,6 +3,7 @@ use reasoner::Answer;
 use runs::Stand;
 use standpoint::{Sizes, Statement};
 
+// A call with its arguments.
 #[derive(Clone, Copy)]
 pub enum Call<G: Clone + Copy + Drop> {
     Begin(Sizes),
@@ -13,6 +14,7 @@ pub enum Call<G: Clone + Copy + Drop> {
     Explain(Statement, usize),
 }
 
+// What a performed call answered.
 #[derive(Clone, Copy)]
 pub enum Done<G: Clone + Copy + Drop> {
     Began,

@@ -25,19 +25,12 @@ use Rattle.replay.specs.Performing.{Performed, none, one_more}
 use Rattle.worked.specs.Lists.{sizes, bare_calls, bare_refused, bare_full, bare_ended, bare_outcomes}
 use Rattle.worked.specs.Cases.{ComeTo}
 use Rattle.worked.proofs.Bases.{bare, ComesTo, BareOnRows}
+use Rattle.worked.proofs.Ranges.{ranged}
 use Rattle.worked.proofs.Calling.{begun, too_few, settled, settle_refused, asked, ask_refused}
 use Rattle.worked.proofs.Outcomes.{told_by_places}
 
 least_in_range : InRange (sizes 1 2 0 0)
-least_in_range = record {
-  some_standpoint = lit≤ tt;
-  standpoints = lit≤ tt;
-  top_and_bottom = lit≤ tt;
-  concepts = lit≤ tt;
-  roles = lit≤ tt;
-  individuals = lit≤ tt;
-  individuals_are_concepts = lit≤ tt;
-}
+least_in_range = ranged 1 2 0 0 (lit≤ tt) (lit≤ tt) (lit≤ tt) (lit≤ tt) (lit≤ tt) (lit≤ tt) (lit≤ tt)
 
 four_tautologies : length (tautologies (sizes 1 2 0 0)) ≡ 4
 four_tautologies = refl

@@ -11,21 +11,14 @@ use Rattle.replay.specs.Performing.{none, one_more}
 use Rattle.worked.specs.Lists.{sizes, clash_calls, clash_outcomes}
 use Rattle.worked.specs.Cases.{ComeTo}
 use Rattle.worked.proofs.Bases.{clash}
+use Rattle.worked.proofs.Ranges.{ranged}
 use Rattle.worked.proofs.Calling.{begun, added}
 use Rattle.worked.proofs.Ending.{EndsAt}
 use Rattle.worked.proofs.Outcomes.{told_by_places}
 use Rattle.worked.proofs.Settling.{settled_and_asked}
 
 in_range : InRange (sizes 1 4 0 1)
-in_range = record {
-  some_standpoint = lit≤ tt;
-  standpoints = lit≤ tt;
-  top_and_bottom = lit≤ tt;
-  concepts = lit≤ tt;
-  roles = lit≤ tt;
-  individuals = lit≤ tt;
-  individuals_are_concepts = lit≤ tt;
-}
+in_range = ranged 1 4 0 1 (lit≤ tt) (lit≤ tt) (lit≤ tt) (lit≤ tt) (lit≤ tt) (lit≤ tt) (lit≤ tt)
 
 eight_tautologies : length (tautologies (sizes 1 4 0 1)) ≡ 8
 eight_tautologies = refl

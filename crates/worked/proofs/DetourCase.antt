@@ -12,6 +12,7 @@ use Rattle.replay.specs.Performing.{none, one_more}
 use Rattle.worked.specs.Lists.{sizes, detour_calls, detour_outcomes}
 use Rattle.worked.specs.Cases.{ComeTo}
 use Rattle.worked.proofs.Bases.{detour}
+use Rattle.worked.proofs.Ranges.{ranged}
 use Rattle.worked.proofs.Calling.{begun, added}
 use Rattle.worked.proofs.Detour.{detour_wins}
 use Rattle.worked.proofs.Ending.{detour_ends}
@@ -19,15 +20,7 @@ use Rattle.worked.proofs.Outcomes.{told_by_places}
 use Rattle.worked.proofs.Settling.{settled_and_asked}
 
 in_range : InRange (sizes 4 2 0 0)
-in_range = record {
-  some_standpoint = lit≤ tt;
-  standpoints = lit≤ tt;
-  top_and_bottom = lit≤ tt;
-  concepts = lit≤ tt;
-  roles = lit≤ tt;
-  individuals = lit≤ tt;
-  individuals_are_concepts = lit≤ tt;
-}
+in_range = ranged 4 2 0 0 (lit≤ tt) (lit≤ tt) (lit≤ tt) (lit≤ tt) (lit≤ tt) (lit≤ tt) (lit≤ tt)
 
 ten_tautologies : length (tautologies (sizes 4 2 0 0)) ≡ 10
 ten_tautologies = refl

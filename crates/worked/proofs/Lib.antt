@@ -7,6 +7,7 @@ pub mod Graded
 pub mod Clash
 pub mod Detour
 pub mod Ending
+pub mod Ranges
 pub mod Calling
 pub mod Outcomes
 pub mod Settling
