@@ -1,3 +1,6 @@
+pub mod Columns
+pub mod Indexing
+pub mod RowFacts
 pub mod Offers
 pub mod Finding
 pub mod Lists
