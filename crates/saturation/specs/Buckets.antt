@@ -1,16 +1,17 @@
 -- Buckets of rows: where a statement is looked for.
 use Rattle.std.specs.Prelude.{◌≡◌, ◌==◌, ℕ, zero, suc, ◌+◌, ◌*◌, ◌/◌, ◌%◌, ◌^◌, ◌<◌, cond, List, length, None, Some, Option, slice_index_or, slice_set}
 use Rattle.standpoint.specs.declared.statement.Statement.{Statement}
+use Rattle.saturation.specs.declared.buckets.TheConstants.{SPREAD}
 use Rattle.saturation.specs.declared.row.Row.{Row}
 use Rattle.saturation.specs.Rows.{no_row}
 
 -- one number more is mixed in
 unfoldable pub mixed : ℕ → ℕ → ℕ
-mixed hash number = (hash + number) % 2 ^ 64 * 11400714819323198485 % 2 ^ 64
+mixed hash number = (hash + number) % 2 ^ 64 * SPREAD % 2 ^ 64
 
 -- the bucket of a statement among so many
 unfoldable pub bucket_of : ℕ → Statement → ℕ
-bucket_of buckets x = mixed (mixed (mixed (mixed (mixed (mixed 0 x.shape) x.first) x.second) x.third) x.fourth) x.fifth / 4294967296 % buckets
+bucket_of buckets x = mixed (mixed (mixed (mixed (mixed (mixed 0 x.shape) x.first) x.second) x.third) x.fourth) x.fifth / 2 ^ 32 % buckets
 
 -- there are as many buckets as rows
 abbrev pub bucket_at : List Row → ℕ → ℕ

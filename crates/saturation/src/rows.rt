@@ -3,7 +3,7 @@ ghost use Rattle.std.specs.Prelude.{◌≡◌, ℕ, ◌+◌, ◌<◌, ◌≤◌,
 ghost use Rattle.saturation.specs.Tables.{view, Same, Found, has_room, pushed, taken_row, improved, statement_at, turn_at, row_at};
 ghost use Rattle.saturation.specs.Searching.{Premise};
 
-use crate::buckets::{bucket, enter};
+use crate::buckets::{bucket_of, enter};
 use crate::row::{Kept, Row};
 use crate::table::Table;
 use standpoint::Statement;
@@ -23,7 +23,7 @@ impl<'a, G: Copy> Table<'a, G> {
         if self.len == 0 {
             return None;
         }
-        let mut at = self.last_in(bucket(statement, self.rows.len()));
+        let mut at = self.last_in(bucket_of(statement, self.rows.len()));
         while let Some(k) = at {
             let row = self.rows[k];
             if row.statement == statement {
@@ -44,7 +44,7 @@ impl<'a, G: Copy> Table<'a, G> {
         if at >= self.rows.len() || at >= self.grades.len() || at >= MOST_ROWS {
             return Err(NoRow);
         }
-        let bucket = bucket(statement, self.rows.len());
+        let bucket = bucket_of(statement, self.rows.len());
         let row = Row {
             statement,
             kept,

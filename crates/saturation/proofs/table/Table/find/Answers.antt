@@ -6,7 +6,7 @@ use Rattle.saturation.proofs.table.Table.find.Goals as goal
 pub loop-at-init : goal.loop-at-init
 loop-at-init g c =
     let t = c.args.self.now in
-    left_all t.rows.now t.len c.args.statement c.last_in-at.result (c.last_in-at.ensures ∙ ap (λ b. last_in t.rows.now b t.len) c.bucket.ensures.value)
+    left_all t.rows.now t.len c.args.statement c.last_in-at.result (c.last_in-at.ensures ∙ ap (λ b. last_in t.rows.now b t.len) c.bucket_of.ensures.value)
 
 pub loop-at-smaller : goal.loop-at-smaller
 loop-at-smaller g c =
