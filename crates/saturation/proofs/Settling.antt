@@ -13,6 +13,7 @@ use Rattle.saturation.specs.Places.{KeptRight}
 use Rattle.saturation.specs.Offering.{Apart, BestOf, Grown, RowsRight, Explained}
 use Rattle.saturation.specs.Searching.{Premise, Lists}
 use Rattle.saturation.proofs.Offers.{last_or, equal_or, not_both, in_same}
+use Rattle.saturation.proofs.Columns.{column_left}
 use Rattle.saturation.proofs.Lists.{Fit, turn_kept}
 use Rattle.saturation.proofs.Stepping.{kept_up}
 
@@ -29,11 +30,7 @@ module _ {G : Type 0} (s : State G) (k : ℕ) (r : Row) (within : k < length s.r
   write_other j ne = get_or-set_other s.rows k j r no_row ne
 
   write_leaves : {X : Type 0} (f : Row → X) → f r ≡ f (row_at s k) → (j : ℕ) → f (row_at (with_row s k r) j) ≡ f (row_at s j)
-  write_leaves f same j =
-      ⊎_elim
-      (λ e. ap (λ (v : ℕ). f (row_at (with_row s k r) v)) e ∙ ap f write_here ∙ same ∙ ap (λ (v : ℕ). f (row_at s v)) (sym e))
-      (λ ne. ap f (write_other j ne))
-      (equal_or j k)
+  write_leaves = column_left s.rows k r within
 
 module _ {G : Type 0} (s : State G) (i : ℕ) (within : i < s.len) (rows_fit : s.len ≤ length s.rows) (room : s.settled < s.len) where
   first_in : s.settled < length s.rows
@@ -158,5 +155,5 @@ explained_grown al s t base l fit g is old k h d =
     let lg = is.long in
     let kh : k < s.settled = omega arith in
     let whole = g.kept (turn_at s k) (fit.1 k kh) (not_both _ k (is.marked k kh)) in
-    let kept : (row_at t (turn_at t k)).kept ≡ (row_at s (turn_at s k)).kept = ap (λ (j : ℕ). (row_at t j).kept) (turn_kept s t fit g k kh) ∙ ap (λ (r : Row). r.kept) whole.0 in
+    let kept : (row_at t (turn_at t k)).kept ≡ (row_at s (turn_at s k)).kept = ap (λ (j : ℕ). (row_at t j).kept) (turn_kept s t fit g k kh) ∙ whole.0 in
     subst (λ (v : Kept). KeptRight al base (take k l) (get_or l k d) v) (sym kept) (old k h d)
