@@ -1,0 +1,57 @@
+#!/usr/bin/env python3
+"""Measures how time grows with the rows, beside the plain Rust twin with as many rows.
+
+Usage: growth.py [--rows N ...] [--mixes NAME ...] [--kind T] [--runs N] [--seed N] [--limit SECONDS] [--ours PROGRAM]
+
+Prints a row for each mix and number of rows. A mix whose run takes longer than the limit is not tried with more rows. Ends with
+status 1 where the two programs differ in how the run stands or in the number of settled statements.
+"""
+import argparse
+import os
+
+from generate import MIXES, make
+from measuring import OUT, build_ours, build_twin, fail, medians, milliseconds, output, peak_kilobytes
+
+HEAD = f"{'mix':14} {'rows':>6} {'stand':>6} {'settled':>8} {'ours ms':>10} {'twin ms':>8} {'ratio':>7} {'ours kB':>8}"
+
+
+def options():
+    parser = argparse.ArgumentParser(description=__doc__, formatter_class=argparse.RawDescriptionHelpFormatter)
+    parser.add_argument("--rows", type=int, nargs="+", default=[256, 1024, 4096, 16384, 65536])
+    parser.add_argument("--mixes", nargs="+", default=["nested", "roles", "everything"], choices=list(MIXES))
+    parser.add_argument("--kind", default="T", choices="TLO")
+    parser.add_argument("--runs", type=int, default=3)
+    parser.add_argument("--seed", type=int, default=1)
+    parser.add_argument("--limit", type=float, default=60, help="seconds")
+    parser.add_argument("--ours", help="the built program, if it is not to be built")
+    return parser.parse_args()
+
+
+def grow(ours, twin, mix, rows, chosen):
+    """Prints the row of this mix and number of rows; whether more rows are to be tried."""
+    make(twin, OUT, mix, chosen.kind, rows, chosen.seed)
+    path = os.path.join(OUT, f"{mix}-{chosen.kind}-{rows}-ended.blk")
+    commands = [[ours, str(rows)], [twin, str(rows), "counts"]]
+    once = milliseconds(commands[0], path)
+    printed, expected = (output(command, path) for command in commands)
+    if printed != expected:
+        fail(f"{os.path.basename(path)}: {printed} and {expected}")
+    stand, settled = printed.decode().split()
+    mine, its = medians(commands, path, chosen.runs)
+    peak = peak_kilobytes(commands[0], path)
+    print(f"{mix:14} {rows:6} {stand:>6} {settled:>8} {mine:10.1f} {its:8.1f} {mine / its:7.2f} {peak:8}", flush=True)
+    return once < 1000 * chosen.limit
+
+
+def main():
+    chosen = options()
+    twin = build_twin()
+    ours = os.path.abspath(chosen.ours) if chosen.ours else build_ours("growth")
+    print(HEAD)
+    for mix in chosen.mixes:
+        for rows in chosen.rows:
+            if not grow(ours, twin, mix, rows, chosen):
+                break
+
+
+main()
