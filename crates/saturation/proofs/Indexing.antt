@@ -1,5 +1,5 @@
 -- The index inside the rows: what keeps it, and what it finds.
-use Rattle.std.proofs.Common.{◌≡◌, ◌≢◌, ℕ, zero, suc, ◌+◌, ◌<◌, ◌≤◌, Bool, true, cond, List, length, get_or, Some, None, Option, sym, refl, ap, ◌∙◌, subst, ⊎_elim, arith, length-set, get_or-set_other, get_or-set_same}
+use Rattle.std.proofs.Common.{◌≡◌, ◌≢◌, ℕ, zero, suc, ◌+◌, ◌<◌, ◌≤◌, Bool, true, cond, List, length, get_or, Some, None, Option, sym, refl, ap, ◌∙◌, subst, ⊎_elim, arith, length-set}
 use lib.ListN.{set}
 use Rattle.std.proofs.lemmas.Nat.{mod_below}
 use Rattle.std.proofs.lemmas.Option.{cond_some, none-some}
@@ -8,7 +8,7 @@ use Rattle.standpoint.specs.declared.statement.Statement.{Statement}
 use Rattle.saturation.specs.declared.row.Row.{Row}
 use Rattle.saturation.specs.Rows.{no_row}
 use Rattle.saturation.specs.Buckets.{bucket_of, bucket_at, last_in, HeadsLast, LinksBack, headed, entered}
-use Rattle.saturation.proofs.Columns.{column_left}
+use Rattle.saturation.proofs.Writing.{write_here, write_other, write_leaves}
 
 abbrev pub statement_in : List Row → ℕ → Statement
 statement_in rows k = (get_or rows k no_row).statement
@@ -90,10 +90,10 @@ module _ (rows new : List Row) (long : length new ≡ length rows) where
 -- one row written that has the statement, head and link of the old one
 module _ (rows : List Row) (i : ℕ) (r : Row) (within : i < length rows) (len : ℕ) (same : r.statement ≡ statement_in rows i) where
   pub set_heads : r.head ≡ (get_or rows i no_row).head → HeadsLast rows len → HeadsLast (set rows i r) len
-  set_heads head = heads_kept rows (set rows i r) (length-set rows i r) len (column_left rows i r within (λ (w : Row). w.statement) same) (column_left rows i r within (λ (w : Row). w.head) head)
+  set_heads head = heads_kept rows (set rows i r) (length-set rows i r) len (write_leaves rows i r within (λ (w : Row). w.statement) same) (write_leaves rows i r within (λ (w : Row). w.head) head)
 
   pub set_links : r.link ≡ (get_or rows i no_row).link → LinksBack rows len → LinksBack (set rows i r) len
-  set_links link = links_kept rows (set rows i r) (length-set rows i r) len (column_left rows i r within (λ (w : Row). w.statement) same) (column_left rows i r within (λ (w : Row). w.link) link)
+  set_links link = links_kept rows (set rows i r) (length-set rows i r) len (write_leaves rows i r within (λ (w : Row). w.statement) same) (write_leaves rows i r within (λ (w : Row). w.link) link)
 
 -- row n is entered, with the head that stood there
 module _ (rows : List Row) (n : ℕ) (x : Row) (b : ℕ) (is : b ≡ bucket_of (length rows) x.statement) (within : n < length rows) where
@@ -111,10 +111,10 @@ module _ (rows : List Row) (n : ℕ) (x : Row) (b : ℕ) (is : b ≡ bucket_of (
 
   -- each column but the heads
   pub entered_old : {X : Type 0} (f : Row → X) → ((r : Row) (k : ℕ) → f (headed r k) ≡ f r) → (k : ℕ) → (k ≡ n → ⊥) → f (get_or new k no_row) ≡ f (get_or rows k no_row)
-  entered_old f apart k ne = column_left mid b (headed (get_or mid b no_row) n) bucket_in f (apart (get_or mid b no_row) n) k ∙ ap f (get_or-set_other rows n k x no_row ne)
+  entered_old f apart k ne = write_leaves mid b (headed (get_or mid b no_row) n) bucket_in f (apart (get_or mid b no_row) n) k ∙ ap f (write_other rows n x within k ne)
 
   pub entered_new : {X : Type 0} (f : Row → X) → ((r : Row) (k : ℕ) → f (headed r k) ≡ f r) → f (get_or new n no_row) ≡ f x
-  entered_new f apart = column_left mid b (headed (get_or mid b no_row) n) bucket_in f (apart (get_or mid b no_row) n) n ∙ ap f (get_or-set_same rows n x no_row within)
+  entered_new f apart = write_leaves mid b (headed (get_or mid b no_row) n) bucket_in f (apart (get_or mid b no_row) n) n ∙ ap f (write_here rows n x within)
 
   statement_old : (k : ℕ) → k < n → statement_in new k ≡ statement_in rows k
   statement_old k h = entered_old (λ (r : Row). r.statement) (λ r k. refl) k (λ e. omega arith)
@@ -133,10 +133,10 @@ module _ (rows : List Row) (n : ℕ) (x : Row) (b : ℕ) (is : b ≡ bucket_of (
       ⊎_elim
       (λ t.
       let last : last_in new c (n + 1) ≡ Some n = ap (last_in new c) next ∙ last_here new c n (bucket_new ∙ sym t.1) in
-      ap (λ (k : ℕ). (get_or new k no_row).head) t.1 ∙ ap (λ (r : Row). r.head) (get_or-set_same mid b (headed (get_or mid b no_row) n) no_row bucket_in) ∙ (cond_some true n i (sym last ∙ e)).1)
+      ap (λ (k : ℕ). (get_or new k no_row).head) t.1 ∙ ap (λ (r : Row). r.head) (write_here mid b (headed (get_or mid b no_row) n) bucket_in) ∙ (cond_some true n i (sym last ∙ e)).1)
       (λ f.
       let last : last_in new c (n + 1) ≡ last_in rows c n = ap (last_in new c) next ∙ last_before new c n (λ same. f.1 (sym same ∙ bucket_new)) ∙ last_old c n (omega arith) in
-      ap (λ (r : Row). r.head) (get_or-set_other mid b c (headed (get_or mid b no_row) n) no_row f.1) ∙ column_left rows n x within (λ (r : Row). r.head) head c ∙ heads c i (sym last ∙ e))
+      ap (λ (r : Row). r.head) (write_other mid b (headed (get_or mid b no_row) n) bucket_in c f.1) ∙ write_leaves rows n x within (λ (r : Row). r.head) head c ∙ heads c i (sym last ∙ e))
       (eqb_tells c b)
 
   pub entered_links : x.link ≡ last_in rows b n → LinksBack rows n → LinksBack new (n + 1)

@@ -1,4 +1,4 @@
-pub mod Columns
+pub mod Writing
 pub mod Indexing
 pub mod RowFacts
 pub mod Offers

@@ -14,8 +14,8 @@ use Rattle.saturation.specs.Rows.{no_row}
 use Rattle.saturation.specs.Buckets.{bucket_of, headed}
 use Rattle.saturation.specs.Tables.{State, row_at, statement_at, Absent, has_room, pushed, improved, rekept}
 use Rattle.saturation.specs.Places.{KeptRight}
-use Rattle.saturation.specs.Offering.{Apart, BestOf, Grown, Taken, Keeps}
-use Rattle.saturation.proofs.Columns.{column_left}
+use Rattle.saturation.specs.Offering.{Apart, BestOf, Grown, Taken, Outdone, Keeps}
+use Rattle.saturation.proofs.Writing.{write_leaves}
 use Rattle.saturation.proofs.Indexing.{entered_long, entered_old, entered_new}
 
 pub last_or : (i n : ℕ) → i < n + 1 → (i < n) ⊎ (i ≡ n)
@@ -194,7 +194,7 @@ module _ {G : Type 0} (s : State G) (i : ℕ) (g : G) (kept : Kept) (rows_in : i
 
   -- what a new step leaves of a row
   left_as : {X : Type 0} (f : Row → X) → f (rekept (row_at s i) kept) ≡ f (row_at s i) → (k : ℕ) → f (row_at (improved s i g kept) k) ≡ f (row_at s k)
-  left_as = column_left s.rows i (rekept (row_at s i) kept) rows_in
+  left_as = write_leaves s.rows i (rekept (row_at s i) kept) rows_in
 
   statements_left : (k : ℕ) → statement_at (improved s i g kept) k ≡ statement_at s k
   statements_left = left_as (λ (r : Row). r.statement) refl
@@ -295,6 +295,16 @@ taken_pushed {G} al l s t false x g room is un absent =
       refused = λ _. (refl, sym room, absent);
     })
 
+pub taken_improved : {G : Type 0} (al : Algebra G) → Laws al → (s t : State G) (i : ℕ) (x : Statement) (g : G) (kept : Kept) → t ≡ improved s i g kept → i < s.len → s.len ≤ length s.rows → s.len ≤ length s.grades → statement_at s i ≡ x → Outdone al s i g true → Taken al s t x g true
+taken_improved {G} al l s t i x g kept is within rows_fit grades_fit same out =
+    subst (λ (z : State G). Taken al s z x g true) (sym is) (record {
+      grown = improved_grown s i g kept (omega arith) (omega arith) out.0;
+      apart = improved_apart s i g kept (omega arith) (omega arith);
+      only = λ k low h. absurd (let z : ⊥ = omega arith in z);
+      best = λ _. improved_best s i g kept (omega arith) (omega arith) al l x within same out.0 out.1;
+      refused = λ e. absurd (both_ways true e refl);
+    })
+
 pub taken_left : {G : Type 0} (al : Algebra G) (s : State G) (i : ℕ) (x : Statement) (g : G) → i < s.len → statement_at s i ≡ x → ((row_at s i).place ≡ None → (d : G) → al.no_worse (get_or s.grades i d) g ≡ true) → Taken al s s x g true
 taken_left al s i x g within is good = record {
   grown = grown_refl s;
@@ -303,18 +313,6 @@ taken_left al s i x g within is good = record {
   best = λ _. left_best al s x g i within is good;
   refused = λ e. absurd (both_ways true e refl);
 }
-
-pub taken_improved : {G : Type 0} (al : Algebra G) → Laws al → (s t : State G) (i : ℕ) (x : Statement) (g : G) (kept : Kept) → t ≡ improved s i g kept → i < s.len → s.len ≤ length s.rows → s.len ≤ length s.grades → statement_at s i ≡ x → (row_at s i).place ≡ None → ((d : G) → al.no_worse (get_or s.grades i d) g ≡ false) → Taken al s t x g true
-taken_improved {G} al l s t i x g kept is within rows_fit grades_fit same un worse =
-    let rows_in : i < length s.rows = omega arith in
-    let grades_in : i < length s.grades = omega arith in
-    subst (λ (z : State G). Taken al s z x g true) (sym is) (record {
-      grown = improved_grown s i g kept rows_in grades_in un;
-      apart = improved_apart s i g kept rows_in grades_in;
-      only = λ k low h. absurd (let z : ⊥ = omega arith in z);
-      best = λ _. improved_best s i g kept rows_in grades_in al l x within same un worse;
-      refused = λ e. absurd (both_ways true e refl);
-    })
 
 pub keeps_pushed : {G : Type 0} (al : Algebra G) (s t : State G) (r : Bool) (x : Row) (g : G) → r ≡ has_room s → t ≡ cond r (pushed s x g) s → Keeps al s t x.statement g x.kept
 keeps_pushed {G} al s t true x g room is =

@@ -1,5 +1,5 @@
 -- What a table's ghost fields say of its rows, and the writes that keep it.
-use Rattle.std.proofs.Common.{◌≡◌, ℕ, ◌+◌, ◌<◌, ◌≤◌, Bool, true, false, List, length, get_or, sym, refl, ap, ◌∙◌, subst, ⊎_elim, arith, length-set, get_or-set_other, get_or-set_same}
+use Rattle.std.proofs.Common.{◌≡◌, ℕ, ◌+◌, ◌<◌, ◌≤◌, Bool, true, false, List, length, get_or, sym, refl, ap, ◌∙◌, subst, ⊎_elim, arith, length-set}
 use lib.ListN.{set}
 use Rattle.std.proofs.lemmas.Bool.Decides.{eqb_tells}
 use Rattle.saturation.specs.declared.row.Row.{Row}
@@ -8,7 +8,7 @@ use Rattle.saturation.specs.Phases.{is_begun}
 use Rattle.saturation.specs.Rows.{no_row, TurnsWithin, Unmarked}
 use Rattle.saturation.specs.Buckets.{bucket_of, last_in, HeadsLast, LinksBack, entered}
 use Rattle.saturation.specs.Tables.{turned}
-use Rattle.saturation.proofs.Columns.{column_left}
+use Rattle.saturation.proofs.Writing.{write_here, write_other, turns_written, marks_written}
 use Rattle.saturation.proofs.Indexing.{set_heads, set_links, entered_long, entered_old, entered_new, entered_heads, entered_links}
 
 pub record RowFacts (rows : List Row) (settled len : ℕ) (begun : Bool) : Type 0 where
@@ -19,7 +19,7 @@ pub record RowFacts (rows : List Row) (settled len : ℕ) (begun : Bool) : Type 
   pub links : LinksBack rows len
 
 pub facts_of : {G : Type 0} (t : Table G) → RowFacts t.rows.now t.settled t.len (is_begun t.phase)
-facts_of t = record { fits = t.rows_fit; turns = t.turns; marks = t.marks; heads = t.heads; links = t.links }
+facts_of t = record { fits = t.rows_fit; turns = t.turns; marks = t.marks; heads = t.bucket_heads; links = t.bucket_links }
 
 module _ (rows : List Row) (settled len : ℕ) (begun : Bool) (f : RowFacts rows settled len begun) where
   -- one row written that keeps these columns; marks are free where no run is begun
@@ -30,8 +30,8 @@ module _ (rows : List Row) (settled len : ℕ) (begun : Bool) (f : RowFacts rows
       let long = length-set rows i r in
       record {
         fits = omega arith;
-        turns = λ k h. subst (λ (t : ℕ). t < len) (sym (column_left rows i r within (λ (w : Row). w.turn) turn k)) (f.turns k h);
-        marks = λ on k h. column_left rows i r within (λ (w : Row). w.mark) (mark on) k ∙ f.marks on k h;
+        turns = turns_written rows i r within settled len turn f.turns;
+        marks = λ on. marks_written rows i r within len begun (mark on) f.marks on;
         heads = set_heads rows i r within len statement head f.heads;
         links = set_links rows i r within len statement link f.links;
       }
@@ -46,10 +46,10 @@ module _ (rows : List Row) (settled len : ℕ) (begun : Bool) (f : RowFacts rows
         fits = omega arith;
         turns = λ k h.
             ⊎_elim
-            (λ t. subst (λ (n : ℕ). n < len) (sym (ap (λ (j : ℕ). (get_or (set rows settled r) j no_row).turn) t.1 ∙ ap (λ (w : Row). w.turn) (get_or-set_same rows settled r no_row within))) below)
-            (λ n. let ne = n.1 in subst (λ (t : ℕ). t < len) (sym (ap (λ (w : Row). w.turn) (get_or-set_other rows settled k r no_row ne))) (f.turns k (omega arith)))
+            (λ t. subst (λ (n : ℕ). n < len) (sym (ap (λ (j : ℕ). (get_or (set rows settled r) j no_row).turn) t.1 ∙ ap (λ (w : Row). w.turn) (write_here rows settled r within))) below)
+            (λ n. let ne = n.1 in subst (λ (t : ℕ). t < len) (sym (ap (λ (w : Row). w.turn) (write_other rows settled r within k ne))) (f.turns k (omega arith)))
             (eqb_tells k settled);
-        marks = λ on k h. column_left rows settled r within (λ (w : Row). w.mark) refl k ∙ f.marks on k h;
+        marks = marks_written rows settled r within len begun refl f.marks;
         heads = set_heads rows settled r within len refl refl f.heads;
         links = set_links rows settled r within len refl refl f.links;
       }

@@ -22,6 +22,6 @@ pub struct Table<'a, G> {
     ghost settled_fit: { settled ≤ len },
     ghost turns: { TurnsWithin rows.now settled len },
     ghost marks: { Unmarked rows.now len (is_begun phase) },
-    ghost heads: { HeadsLast rows.now len },
-    ghost links: { LinksBack rows.now len },
+    ghost bucket_heads: { HeadsLast rows.now len },
+    ghost bucket_links: { LinksBack rows.now len },
 }

@@ -11,10 +11,10 @@ loop-at-init g c =
 pub loop-at-smaller : goal.loop-at-smaller
 loop-at-smaller g c =
     let t = c.args.self.now in
-    walk_falls t.rows.now t.len c.args.statement t.links c.loop-at.at c.in-Some.k c.in-Some.is c.loop-at.invariant
+    walk_falls t.rows.now t.len c.args.statement t.bucket_links c.loop-at.at c.in-Some.k c.in-Some.is c.loop-at.invariant
 
 pub loop-at-preserved : goal.loop-at-preserved
 loop-at-preserved g c =
     let t = c.args.self.now in
     let other : statement_in t.rows.now c.in-Some.k ≢ c.args.statement = search (rules, tests) in
-    left_next t.rows.now t.len c.args.statement t.links c.loop-at.at c.in-Some.k c.in-Some.is c.loop-at.invariant other
+    left_next t.rows.now t.len c.args.statement t.bucket_links c.loop-at.at c.in-Some.k c.in-Some.is c.loop-at.invariant other

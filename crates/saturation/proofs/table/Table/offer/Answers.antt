@@ -18,13 +18,11 @@ returns-then-outdone-clause-state g c =
     let k = c.args.kind.now in
     let t = c.args.self.now in
     let found = c.in-Some.ensures in
-    let out = c.if-outdone.ensures in
-    taken_improved (g.K.Kind.algebra k) (g.met.K.Kind.lawful k) (view t) (view c.improve.new.self) c.in-Some.i c.args.statement c.args.grade c.args.kept c.improve.ensures.state found.0 t.rows_fit t.grades_fit found.1 out.0 out.1
+    taken_improved (g.K.Kind.algebra k) (g.met.K.Kind.lawful k) (view t) (view c.improve.new.self) _ _ c.args.grade _ c.improve.ensures.state found.0 t.rows_fit t.grades_fit found.1 c.if-outdone.ensures
 
 pub returns-then-outdone-clause-keeps : goal.returns-then-outdone-clause-keeps
 returns-then-outdone-clause-keeps g c =
     let k = c.args.kind.now in
     let t = c.args.self.now in
     let found = c.in-Some.ensures in
-    let out = c.if-outdone.ensures in
     keeps_improved (g.K.Kind.algebra k) (view t) (view c.improve.new.self) _ _ c.args.grade _ c.improve.ensures.state found.0 t.rows_fit t.grades_fit found.1

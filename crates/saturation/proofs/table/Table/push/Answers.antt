@@ -16,4 +16,4 @@ invariant_of-self-2 g c =
     let low = t.settled_fit in
     let f = subst (λ (rows : List Row). RowFacts rows t.settled (t.len + 1) begun) (sym c.enter.ensures)
     (entered_facts t.rows.now t.settled t.len begun (facts_of t) x c.bucket_of-bucket.result c.bucket_of-bucket.ensures.value (omega arith) low refl refl c.last_in.ensures) in
-    record { rows_fit = f.fits; grades_fit = simp length-set (omega arith); few = omega arith; settled_fit = omega arith; turns = f.turns; marks = f.marks; heads = f.heads; links = f.links }
+    record { rows_fit = f.fits; grades_fit = simp length-set (omega arith); few = omega arith; settled_fit = omega arith; turns = f.turns; marks = f.marks; bucket_heads = f.heads; bucket_links = f.links }
