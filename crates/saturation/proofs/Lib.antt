@@ -1,6 +1,8 @@
 pub mod Offers
+pub mod Writing
 pub mod Finding
 pub mod Lists
+pub mod Linking
 pub mod Numbering
 pub mod Sameness
 pub mod Marks
@@ -8,8 +10,10 @@ pub mod Choosing
 pub mod Stepping
 pub mod Reading
 pub mod Searches
+pub mod Walking
 pub mod Links
 pub mod Enumerating
+pub mod Premises
 pub mod Pigeons
 pub mod Opening
 pub mod Settling

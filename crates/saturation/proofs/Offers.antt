@@ -13,7 +13,7 @@ use Rattle.standpoint.specs.Derivations.{Base}
 use Rattle.saturation.specs.Rows.{no_row}
 use Rattle.saturation.specs.Tables.{State, row_at, statement_at, Absent, has_room, pushed, improved, rekept}
 use Rattle.saturation.specs.Places.{KeptRight}
-use Rattle.saturation.specs.Offering.{Apart, BestOf, Grown, Taken, Keeps}
+use Rattle.saturation.specs.Offering.{Apart, BestOf, Grown, Taken, Outdone, Keeps}
 
 pub last_or : (i n : ℕ) → i < n + 1 → (i < n) ⊎ (i ≡ n)
 last_or i n h = ⊎_elim (λ t. inr t.1) (λ f. let ne = f.1 in inl (omega arith)) (eqb_tells i n)
@@ -290,6 +290,16 @@ taken_pushed {G} al l s t false x g room is un absent =
       only = λ k low h. absurd (let z : ⊥ = omega arith in z);
       best = λ e. absurd (both_ways false refl e);
       refused = λ _. (refl, sym room, absent);
+    })
+
+pub taken_improved : {G : Type 0} (al : Algebra G) → Laws al → (s t : State G) (i : ℕ) (x : Statement) (g : G) (kept : Kept) → t ≡ improved s i g kept → i < s.len → s.len ≤ length s.rows → s.len ≤ length s.grades → statement_at s i ≡ x → Outdone al s i g true → Taken al s t x g true
+taken_improved {G} al l s t i x g kept is within rows_fit grades_fit same out =
+    subst (λ (z : State G). Taken al s z x g true) (sym is) (record {
+      grown = improved_grown s i g kept (omega arith) (omega arith) out.0;
+      apart = improved_apart s i g kept (omega arith) (omega arith);
+      only = λ k low h. absurd (let z : ⊥ = omega arith in z);
+      best = λ _. improved_best s i g kept (omega arith) (omega arith) al l x within same out.0 out.1;
+      refused = λ e. absurd (both_ways true e refl);
     })
 
 pub taken_left : {G : Type 0} (al : Algebra G) (s : State G) (i : ℕ) (x : Statement) (g : G) → i < s.len → statement_at s i ≡ x → ((row_at s i).place ≡ None → (d : G) → al.no_worse (get_or s.grades i d) g ≡ true) → Taken al s s x g true

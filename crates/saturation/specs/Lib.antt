@@ -1,6 +1,7 @@
 pub mod Phases
 pub mod Rows
 pub mod Tables
+pub mod Classes
 pub mod Places
 pub mod Offering
 pub mod Searching

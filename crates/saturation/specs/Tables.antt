@@ -68,20 +68,20 @@ abbrev pub with_row : {G : Type 0} → State G → ℕ → Row → State G
 with_row s k r = record { rows = slice_set s.rows k r; grades = s.grades; len = s.len; settled = s.settled }
 
 abbrev pub rekept : Row → Kept → Row
-rekept r k = row r.statement k r.place r.turn r.mark
+rekept r k = row r.statement k r.place r.turn r.earlier r.mark
 
 -- another step and grade for row i
 abbrev pub improved : {G : Type 0} → State G → ℕ → G → Kept → State G
 improved s i g k = record { rows = slice_set s.rows i (rekept (row_at s i) k); grades = slice_set s.grades i g; len = s.len; settled = s.settled }
 
-abbrev pub turned : Row → ℕ → Row
-turned r i = row r.statement r.kept r.place i r.mark
+abbrev pub turned : Row → ℕ → ℕ → Row
+turned r i h = row r.statement r.kept r.place i h r.mark
 
 abbrev pub placed : Row → ℕ → Row
-placed r p = row r.statement r.kept (Some p) r.turn r.mark
+placed r p = row r.statement r.kept (Some p) r.turn r.earlier r.mark
 
-abbrev pub with_turn : {G : Type 0} → State G → ℕ → ℕ → State G
-with_turn s k i = with_row s k (turned (row_at s k) i)
+abbrev pub with_turn : {G : Type 0} → State G → ℕ → ℕ → ℕ → State G
+with_turn s k i h = with_row s k (turned (row_at s k) i h)
 
 abbrev pub with_place : {G : Type 0} → State G → ℕ → ℕ → State G
 with_place s i p = with_row s i (placed (row_at s i) p)
@@ -89,9 +89,9 @@ with_place s i p = with_row s i (placed (row_at s i) p)
 abbrev pub one_more : {G : Type 0} → State G → State G
 one_more s = record { rows = s.rows; grades = s.grades; len = s.len; settled = s.settled + 1 }
 
--- row i is settled in the next turn
-abbrev pub settled_row : {G : Type 0} → State G → ℕ → State G
-settled_row s i = one_more (with_place (with_turn s s.settled i) i s.settled)
+-- row i is settled in the next turn, and linked to the place h
+abbrev pub settled_row : {G : Type 0} → State G → ℕ → ℕ → State G
+settled_row s i h = one_more (with_place (with_turn s s.settled i h) i s.settled)
 
 -- no row is taken
 abbrev pub fresh : {G : Type 0} → List Row → List G → State G

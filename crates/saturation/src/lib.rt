@@ -10,6 +10,7 @@ pub use turn::Turn;
 
 mod attempt;
 mod choose;
+mod class;
 mod memory;
 mod offer;
 mod phase;

@@ -28,6 +28,7 @@ impl<'a, G: Copy> Table<'a, G> {
                     kept,
                     place: None,
                     turn: 0,
+                    earlier: 0,
                     mark: false,
                 },
                 grade,

@@ -2,7 +2,9 @@
 ghost use Rattle.std.specs.Prelude.{◌≤◌, length};
 ghost use Rattle.saturation.specs.Phases.{is_begun};
 ghost use Rattle.saturation.specs.Rows.{TurnsWithin, Unmarked};
+ghost use Rattle.saturation.specs.Classes.{Linked};
 
+use crate::class::CLASSES;
 use crate::phase::Phase;
 use crate::row::Row;
 
@@ -14,11 +16,14 @@ pub struct Table<'a, G> {
     pub grades: &'a mut [G],
     pub len: usize,
     pub settled: usize,
+    // For each class the settling place, from 1, of the last one settled; 0 is none.
+    pub latest: [usize; CLASSES],
     pub phase: Phase,
     ghost rows_fit: { len ≤ length rows.now },
     ghost grades_fit: { len ≤ length grades.now },
     ghost few: { len ≤ 16777215 },
     ghost settled_fit: { settled ≤ len },
     ghost turns: { TurnsWithin rows.now settled len },
+    ghost links: { Linked rows.now latest settled },
     ghost marks: { Unmarked rows.now len (is_begun phase) },
 }
