@@ -1,11 +1,13 @@
 -- Rows whose marks below a place are taken back.
-use Rattle.std.proofs.Common.{◌≡◌, ℕ, ◌-◌, ◌+◌, ◌<◌, ◌≤◌, false, List, ◌++◌, length, map, take, drop, get_or, sym, ap, ◌∙◌, subst, ⊎_elim, arith, length-append}
+use Rattle.std.proofs.Common.{◌≡◌, ℕ, ◌-◌, ◌+◌, ◌<◌, ◌≤◌, false, List, ◌++◌, length, map, take, drop, get_or, sym, refl, ap, ◌∙◌, subst, ⊎_elim, arith, length-append}
 use Rattle.std.proofs.lemmas.List.{get_or_append_left, get_or-append_right, get_or-map, get_or-take, get_or-drop, length-map, length-take-le, length-drop}
 use Rattle.saturation.specs.declared.row.Row.{Row}
 use Rattle.saturation.specs.Rows.{no_row, TurnsWithin}
 use Rattle.saturation.specs.declared.table.Table.{Table}
 use Rattle.saturation.specs.Tables.{State, row_at}
+use Rattle.saturation.specs.Classes.{Linked}
 use Rattle.saturation.proofs.Offers.{below_or}
+use Rattle.saturation.proofs.Linking.{class_same, linked_same}
 use Rattle.explanation.specs.Marks.{remarked, Clean, ButMarks}
 
 pub settled_rows : {G : Type 0} (t : Table G) → t.settled ≤ length t.rows.now
@@ -35,6 +37,20 @@ module _ (rows : List Row) (n : ℕ) (fit : n ≤ length rows) (part : List Row)
 
   pub cleared_turns : (len : ℕ) → TurnsWithin rows n len → TurnsWithin (part ++ drop n rows) n len
   cleared_turns len turns k h = subst (λ (t : ℕ). t < len) (sym (ap (λ (r : Row). r.turn) (below_cleared k h))) (turns k h)
+
+  -- what the marks leave of a row
+  cleared_leaves : {X : Type 0} (f : Row → X) → ((r : Row) → f (remarked r false) ≡ f r) → (k : ℕ) → f (get_or (part ++ drop n rows) k no_row) ≡ f (get_or rows k no_row)
+  cleared_leaves f same k =
+      ⊎_elim
+      (λ lt. ap f (below_cleared k lt) ∙ same (get_or rows k no_row))
+      (λ ge. ap f (above_cleared k ge))
+      (below_or k n)
+
+  pub cleared_links : (latest : List ℕ) → Linked rows latest n → Linked (part ++ drop n rows) latest n
+  cleared_links latest =
+      linked_same rows (part ++ drop n rows) latest n
+      (λ k below. class_same rows (part ++ drop n rows) (cleared_leaves (λ (r : Row). r.statement) (λ r. refl)) k (cleared_leaves (λ (r : Row). r.turn) (λ r. refl) k))
+      (λ k below. cleared_leaves (λ (r : Row). r.earlier) (λ r. refl) k)
 
   module _ {G : Type 0} (s u : State G) (of : s.rows ≡ rows) (at : s.settled ≡ n) (new : u.rows ≡ part ++ drop n rows) (len : u.len ≡ s.len) (settled : u.settled ≡ s.settled) (grades : u.grades ≡ s.grades) where
     row_below : (k : ℕ) → k < n → row_at u k ≡ remarked (row_at s k) false

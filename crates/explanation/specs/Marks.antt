@@ -11,7 +11,7 @@ abbrev pub mark_at : {G : Type 0} → State G → ℕ → Bool
 mark_at s k = (row_at s k).mark
 
 abbrev pub remarked : Row → Bool → Row
-remarked r b = row r.statement r.kept r.place r.turn b
+remarked r b = row r.statement r.kept r.place r.turn r.earlier b
 
 abbrev pub with_mark : {G : Type 0} → State G → ℕ → Bool → State G
 with_mark s k b = with_row s k (remarked (row_at s k) b)

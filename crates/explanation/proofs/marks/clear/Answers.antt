@@ -1,7 +1,7 @@
 use Rattle.std.proofs.Common.{refl, arith}
 use borrow.Author.Tests.{both_ways}
 use Rattle.saturation.specs.Tables.{view}
-use Rattle.explanation.proofs.Clearing.{settled_rows, cleared_long, cleared_turns, cleared_but, cleared_clean}
+use Rattle.explanation.proofs.Clearing.{settled_rows, cleared_long, cleared_turns, cleared_links, cleared_but, cleared_clean}
 use Rattle.explanation.proofs.marks.clear.Goals as goal
 
 pub invariant_of-reasoner-clause-rows_fit : goal.invariant_of-reasoner-clause-rows_fit
@@ -10,6 +10,11 @@ invariant_of-reasoner-clause-rows_fit g c =
     let long = cleared_long t.rows.now t.settled (settled_rows t) c.unmark.new.rows c.unmark.ensures in
     let fits = t.rows_fit in
     omega arith
+
+pub invariant_of-reasoner-clause-links : goal.invariant_of-reasoner-clause-links
+invariant_of-reasoner-clause-links g c =
+    let t = c.args.reasoner.now in
+    cleared_links t.rows.now t.settled (settled_rows t) c.unmark.new.rows c.unmark.ensures t.latest t.links
 
 pub invariant_of-reasoner-clause-turns : goal.invariant_of-reasoner-clause-turns
 invariant_of-reasoner-clause-turns g c =
