@@ -80,6 +80,15 @@ linked rule p q =
     (cond (rule == 16) (p.shape == 5 && (q.shape == 6 && p.fourth == q.third))
     false))))))))))
 
+-- the same of three, by the names alone
+abbrev pub all_linked : ℕ → Statement → Statement → Statement → Bool
+all_linked rule p q r =
+    cond (rule == 3) (p.second == r.first && q.second == r.second)
+    (cond (rule == 14) (p.fourth == q.fourth && p.third == r.second)
+    (cond (rule == 15) (p.third == r.second && q.third == r.third)
+    (cond (rule == 17) (p.fifth == r.second && q.fifth == r.third)
+    false)))
+
 -- what is to be offered around the newest n and one other premise i, by a rule with two
 abbrev pub Pair : {G : Type 0} → Algebra G → ℕ → ℕ → ℕ → ℕ → List (Statement × G) → Statement × G → Type 0
 Pair a individuals rule n i settled o = Step a individuals settled rule (n ∷ i ∷ []) o ⊎ Step a individuals settled rule (i ∷ n ∷ []) o
