@@ -2,6 +2,7 @@ pub mod Phases
 pub mod Rows
 pub mod Buckets
 pub mod Tables
+pub mod Classes
 pub mod Places
 pub mod Offering
 pub mod Searching

@@ -66,7 +66,7 @@ with_row s k r = record { rows = slice_set s.rows k r; grades = s.grades; len = 
 
 -- the next row, linked to the last of its bucket
 abbrev pub taken_row : {G : Type 0} → State G → Statement → Kept → Row
-taken_row s x step = row x step None 0 false (row_at s s.len).head (last_in s.rows (bucket_of (length s.rows) x) s.len)
+taken_row s x step = row x step None 0 0 false (row_at s s.len).head (last_in s.rows (bucket_of (length s.rows) x) s.len)
 
 -- one row and its grade more
 abbrev pub pushed : {G : Type 0} → State G → Row → G → State G
@@ -79,14 +79,14 @@ rekept r k = record r { kept = k }
 abbrev pub improved : {G : Type 0} → State G → ℕ → G → Kept → State G
 improved s i g k = record { rows = slice_set s.rows i (rekept (row_at s i) k); grades = slice_set s.grades i g; len = s.len; settled = s.settled }
 
-abbrev pub turned : Row → ℕ → Row
-turned r i = record r { turn = i }
+abbrev pub turned : Row → ℕ → ℕ → Row
+turned r i h = record r { turn = i; earlier = h }
 
 abbrev pub placed : Row → ℕ → Row
 placed r p = record r { place = Some p }
 
-abbrev pub with_turn : {G : Type 0} → State G → ℕ → ℕ → State G
-with_turn s k i = with_row s k (turned (row_at s k) i)
+abbrev pub with_turn : {G : Type 0} → State G → ℕ → ℕ → ℕ → State G
+with_turn s k i h = with_row s k (turned (row_at s k) i h)
 
 abbrev pub with_place : {G : Type 0} → State G → ℕ → ℕ → State G
 with_place s i p = with_row s i (placed (row_at s i) p)
@@ -94,9 +94,9 @@ with_place s i p = with_row s i (placed (row_at s i) p)
 abbrev pub one_more : {G : Type 0} → State G → State G
 one_more s = record { rows = s.rows; grades = s.grades; len = s.len; settled = s.settled + 1 }
 
--- row i is settled in the next turn
-abbrev pub settled_row : {G : Type 0} → State G → ℕ → State G
-settled_row s i = one_more (with_place (with_turn s s.settled i) i s.settled)
+-- row i is settled in the next turn, and linked to the place h
+abbrev pub settled_row : {G : Type 0} → State G → ℕ → ℕ → State G
+settled_row s i h = one_more (with_place (with_turn s s.settled i h) i s.settled)
 
 -- no row is taken
 abbrev pub fresh : {G : Type 0} → List Row → List G → State G

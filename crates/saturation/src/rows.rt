@@ -50,6 +50,7 @@ impl<'a, G: Copy> Table<'a, G> {
             kept,
             place: None,
             turn: 0,
+            earlier: 0,
             mark: false,
             head: self.rows[at].head,
             link: self.last_in(bucket),

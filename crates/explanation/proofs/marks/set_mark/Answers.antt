@@ -12,5 +12,5 @@ invariant_of-reasoner g c =
     let t = c.args.reasoner.now in
     let fits = settled_rows t in
     let within = c.requires.0 in
-    let f = set_facts t.rows.now t.settled t.len (is_begun t.phase) (facts_of t) c.args.k (remarked (row_at (view t) c.args.k) true) (omega arith) refl refl refl refl (λ on. absurd (both_ways _ c.requires.1 on)) in
-    record { rows_fit = f.fits; grades_fit = t.grades_fit; few = t.few; settled_fit = t.settled_fit; turns = f.turns; marks = f.marks; bucket_heads = f.heads; bucket_links = f.links }
+    let f = set_facts t.rows.now t.latest t.settled t.len (is_begun t.phase) (facts_of t) c.args.k (remarked (row_at (view t) c.args.k) true) (omega arith) refl refl refl refl refl (λ on. absurd (both_ways _ c.requires.1 on)) in
+    record { rows_fit = f.fits; grades_fit = t.grades_fit; few = t.few; settled_fit = t.settled_fit; turns = f.turns; marks = f.marks; bucket_heads = f.bucket_heads; bucket_links = f.bucket_links; class_links = f.class_links }
