@@ -107,6 +107,12 @@ module _ {G : Type 0} (a : Algebra G) (b : Base G) (t : Table G) where
   room_not_ended room (going (is, range, h)) ended = waiting_not_ended h room ended
   room_not_ended room (standing (is, range, h)) ended = ended.0 h.full
 
+  -- nor does one that stands full
+  pub full_not_ended : {l : Settled G} {n : Sizes} → t.phase ≡ phase.Full n → Holding a b t l → Stands a b (capacity (view t)) l Ended → ⊥
+  full_not_ended {n = n} full (taking (is, range, h)) ended = let e : phase.Taking b.sizes ≡ phase.Full n = sym is ∙ full in let z : ◌≡◌ {A = ℕ} 0 1 = cc in omega arith
+  full_not_ended {n = n} full (going (is, range, h)) ended = let e : phase.Running b.sizes ≡ phase.Full n = sym is ∙ full in let z : ◌≡◌ {A = ℕ} 0 1 = cc in omega arith
+  full_not_ended full (standing (is, range, h)) ended = ended.0 h.full
+
   module _ (laws : Laws a) {l : Settled G} (h : Holding a b t l) (x : Statement) where
     pub says_graded : (g : G) → RowGraded (view t) x (Some g) → Says a b l (capacity (view t)) x (Graded g)
     says_graded g row =

@@ -1,5 +1,5 @@
 -- The loops of a search find each offer that uses the newest settled statement.
-use Rattle.std.proofs.Common.{◌≡◌, ℕ, ◌+◌, ◌<◌, ◌≤◌, Bool, true, false, ◌⊎◌, List, [], ◌∷◌, length, sym, refl, ◌∙◌, subst, inl, inr, ⊎_elim, arith}
+use Rattle.std.proofs.Common.{◌≡◌, ◌≢◌, ℕ, ◌+◌, ◌<◌, ◌≤◌, Bool, true, false, ◌⊎◌, List, [], ◌∷◌, length, sym, refl, ap, ◌∙◌, subst, inl, inr, ⊎_elim, arith}
 use Rattle.std.proofs.lemmas.Bool.Decides.{nat_tests}
 use Rattle.standpoint.specs.declared.statement.Statement.{Statement}
 use Rattle.standpoint.specs.declared.premises.Beside.TheVariants as beside
@@ -9,11 +9,14 @@ use Rattle.standpoint.specs.Rules.{Rule, arity_of, GoesWith}
 use Rattle.standpoint.proofs.Arities.{few_premises, has_arity}
 use Rattle.saturation.specs.declared.places.Position.{Position}
 use Rattle.saturation.specs.declared.places.Position.TheVariants.{First, Second, Third}
+use Rattle.saturation.specs.Classes.{class_of, class_at}
 use Rattle.saturation.specs.Tables.{State, statement_at, turn_at}
 use Rattle.saturation.specs.Places.{Step, StandAt, Uses, statements_of}
-use Rattle.saturation.specs.Searching.{Lists, Went, Pair, Triples, AllTriples, Around, around_one, around_two, around_three, arranged, NeverGoes, premises_in, SettledPlaces}
+use Rattle.saturation.specs.Searching.{Lists, Went, Pair, Triples, AllTriples, Around, BesideClass, around_one, around_two, around_three, arranged, NeverGoes, premises_in, SettledPlaces}
 use Rattle.saturation.proofs.Lists.{Fit}
-use Rattle.saturation.proofs.Stepping.{stand_same}
+use Rattle.saturation.proofs.Linking.{class_few}
+use Rattle.saturation.proofs.Stepping.{stand_same, value_at}
+use Rattle.saturation.proofs.Walking.{class_listed}
 use Rattle.saturation.proofs.Searches.{Family, Below, went_as, went_then, went_more, went_none, went_stopped, went_false}
 
 pub same_never : (rule : ℕ) (q q' : Position) (x x' y y' : Statement) → q ≡ q' → x ≡ x' → y ≡ y' → NeverGoes rule q x y → NeverGoes rule q' x' y'
@@ -75,14 +78,10 @@ module _ {G : Type 0} (al : Algebra G) (v : ℕ) where
   abbrev pub ThirdOf : ℕ → ℕ → ℕ → Position → Family G
   ThirdOf rule n i position l = Triples al v rule position n i (length l) l
 
-  -- one third premise more
-  pub went_triple : (s t u : State G) (rule : ℕ) (position : Position) (n i j : ℕ) (r : Bool) → Fit s →
-      Went al v s t (Below (Triple rule position n i) j) (Using n) true →
-      Went al v t u (Triple rule position n i j) (Triple rule position n i j) r →
-      Went al v s u (Below (Triple rule position n i) (j + 1)) (Using n) r
-  went_triple s t u rule position n i j r fit x y =
-      went_more al v s t u (Triple rule position n i) (Using n) j r fit x
-      (went_as al v t u _ (Triple rule position n i j) _ (Using n) r (λ l is o w. w) (λ l is o w. step_uses n rule (arranged position n i j) l o (in_arranged position n i j) w) y)
+  -- one third premise
+  pub went_third : (s t : State G) (rule : ℕ) (position : Position) (n i j : ℕ) (r : Bool) → Went al v s t (Triple rule position n i j) (Triple rule position n i j) r → Went al v s t (Triple rule position n i j) (Using n) r
+  went_third s t rule position n i j r x =
+      went_as al v s t _ (Triple rule position n i j) _ (Using n) r (λ l is o w. w) (λ l is o w. step_uses n rule (arranged position n i j) l o (in_arranged position n i j) w) x
 
   statements_arranged : (s : State G) (d : G) (position : Position) (n i j : ℕ) →
       statements_of (premises_in s d (arranged position n i j)) ≡ arranged position (statement_at s (turn_at s n)) (statement_at s (turn_at s i)) (statement_at s (turn_at s j))
@@ -166,41 +165,51 @@ module _ {G : Type 0} (al : Algebra G) (v : ℕ) where
   around_arity rule n i l o (around_three a) =
       inr (inr (⊎_elim (⊎_elim (triples_arity rule n i First l o) (triples_arity rule n i Second l o)) (triples_arity rule n i Third l o) a, a))
 
-  module _ (s t : State G) (rule n i : ℕ) (r : Bool) where
-    -- a rule with one premise
-    pub around_single : arity_of rule ≡ 1 → Went al v s t (λ l. Step al v l rule (n ∷ [])) (λ l. Step al v l rule (n ∷ [])) r → Went al v s t (Around al v rule n i) (Using n) r
-    around_single one x =
-        went_as al v s t _ (Around al v rule n i) _ (Using n) r
-        (λ l is o b. ⊎_elim (λ w. w.2) (⊎_elim (λ w. absurd (let e = w.0 in let z : ⊥ = omega arith in z)) (λ w. absurd (let e = w.0 in let z : ⊥ = omega arith in z))) (around_arity rule n i l o b))
-        (λ l is o w. step_uses n rule (n ∷ []) l o (inl refl) w) x
+  around_alone : (rule n i : ℕ) (l : List (Statement × G)) (o : Statement × G) → arity_of rule ≡ 1 → Around al v rule n i l o → (i ≡ n) × Step al v l rule (n ∷ []) o
+  around_alone rule n i l o one b =
+      ⊎_elim
+      (λ w. (w.1, w.2))
+      (⊎_elim (λ w. absurd (let e = w.0 in let z : ⊥ = omega arith in z)) (λ w. absurd (let e = w.0 in let z : ⊥ = omega arith in z)))
+      (around_arity rule n i l o b)
 
+  module _ (s t : State G) (rule n i : ℕ) (r : Bool) where
     pub around_pair : arity_of rule ≡ 2 → Went al v s t (Pair al v rule n i) (Using n) r → Went al v s t (Around al v rule n i) (Using n) r
     around_pair two x =
         went_as al v s t _ (Around al v rule n i) _ (Using n) r
         (λ l is o b. ⊎_elim (λ w. absurd (let e = w.0 in let z : ⊥ = omega arith in z)) (⊎_elim (λ w. w.1) (λ w. absurd (let e = w.0 in let z : ⊥ = omega arith in z))) (around_arity rule n i l o b))
         (λ l is o w. w) x
 
-    pub around_triples : arity_of rule ≡ 3 → Went al v s t (AllTriples al v rule n i) (Using n) r → Went al v s t (Around al v rule n i) (Using n) r
-    around_triples three x =
+    pub around_triples : arity_of rule ≢ 1 → arity_of rule ≢ 2 → Went al v s t (AllTriples al v rule n i) (Using n) r → Went al v s t (Around al v rule n i) (Using n) r
+    around_triples one two x =
         went_as al v s t _ (Around al v rule n i) _ (Using n) r
-        (λ l is o b. ⊎_elim (λ w. absurd (let e = w.0 in let z : ⊥ = omega arith in z)) (⊎_elim (λ w. absurd (let e = w.0 in let z : ⊥ = omega arith in z)) (λ w. w.1)) (around_arity rule n i l o b))
+        (λ l is o b. ⊎_elim (λ w. absurd (one w.0)) (⊎_elim (λ w. absurd (two w.0)) (λ w. w.1)) (around_arity rule n i l o b))
         (λ l is o w. w) x
 
-  -- a rule with one premise gives nothing around another place than the newest's own
-  pub around_elsewhere : (s : State G) (rule n i : ℕ) → arity_of rule ≡ 1 → (i ≡ n → ⊥) → Went al v s s (Around al v rule n i) (Using n) true
-  around_elsewhere s rule n i one other = went_none al v s _ (Using n) (λ l is o b.
-      ⊎_elim (λ w. other w.1) (⊎_elim (λ w. let e = w.0 in omega arith) (λ w. let e = w.0 in omega arith)) (around_arity rule n i l o b))
+  -- a rule with one premise
+  pub beside_single : (s t : State G) (rule n c : ℕ) (r : Bool) → arity_of rule ≡ 1 → Went al v s t (λ l. Step al v l rule (n ∷ [])) (λ l. Step al v l rule (n ∷ [])) r → Went al v s t (BesideClass al v rule n c) (Using n) r
+  beside_single s t rule n c r one x =
+      went_as al v s t _ (BesideClass al v rule n c) _ (Using n) r
+      (λ l is o b. (around_alone rule n b.0 l o one b.2).1)
+      (λ l is o w. step_uses n rule (n ∷ []) l o (inl refl) w) x
+
+  -- it gives nothing beside another class than that of n
+  pub beside_elsewhere : (s : State G) (rule n c : ℕ) → arity_of rule ≡ 1 → c ≢ class_at s.rows n → Went al v s s (BesideClass al v rule n c) (Using n) true
+  beside_elsewhere s rule n c one other = went_none al v s _ (Using n) (λ l is o b.
+      other (sym (class_listed s l is c b.0 b.1) ∙ ap (class_at s.rows) (around_alone rule n b.0 l o one b.2).0))
 
   -- what a rule gives around n and all that is settled
   abbrev pub Ruled : ℕ → ℕ → Family G
   Ruled n rule l o = (1 ≤ rule) × Below (Around al v rule n) (length l) l o
 
   -- one rule more
-  pub went_rule : (s t u : State G) (n rule m : ℕ) → Fit s → 1 ≤ rule → t.settled ≤ m → Went al v s t (Below (Ruled n) rule) (Using n) true → Went al v t u (Below (Around al v rule n) m) (Using n) true → Went al v s u (Below (Ruled n) (rule + 1)) (Using n) true
+  pub went_rule : (s t u : State G) (n rule m : ℕ) → Fit s → 1 ≤ rule → 10 ≤ m → Went al v s t (Below (Ruled n) rule) (Using n) true → Went al v t u (Below (BesideClass al v rule n) m) (Using n) true → Went al v s u (Below (Ruled n) (rule + 1)) (Using n) true
   went_rule s t u n rule m fit low end x y =
       went_more al v s t u (Ruled n) (Using n) rule true fit x
-      (went_as al v t u (Below (Around al v rule n) m) (Ruled n rule) _ _ true
-      (λ l is o b. let lg = is.long in let h = b.1.1 in (b.1.0, omega arith, b.1.2))
+      (went_as al v t u (Below (BesideClass al v rule n) m) (Ruled n rule) _ _ true
+      (λ l is o b.
+      let w = value_at l b.1.0 b.1.1 in
+      let few = class_few w.0.0 in
+      (class_of w.0.0, omega arith, (b.1.0, (b.1.1, λ d. ap (λ (p : Statement × G). class_of p.0) (w.1 d)), b.1.2)))
       (λ l is o w. w) y)
 
   rule_within : (rule : ℕ) → 1 ≤ arity_of rule → (1 ≤ rule) × (rule < 24)

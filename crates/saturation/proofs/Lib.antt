@@ -1,5 +1,8 @@
+pub mod Writing
+pub mod Indexing
 pub mod Offers
-pub mod Finding
+pub mod Linking
+pub mod RowFacts
 pub mod Lists
 pub mod Numbering
 pub mod Sameness
@@ -8,8 +11,10 @@ pub mod Choosing
 pub mod Stepping
 pub mod Reading
 pub mod Searches
+pub mod Walking
 pub mod Links
 pub mod Enumerating
+pub mod Premises
 pub mod Pigeons
 pub mod Opening
 pub mod Settling

@@ -1,6 +1,8 @@
 pub mod Phases
 pub mod Rows
+pub mod Buckets
 pub mod Tables
+pub mod Classes
 pub mod Places
 pub mod Offering
 pub mod Searching

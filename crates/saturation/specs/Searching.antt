@@ -8,6 +8,7 @@ use Rattle.standpoint.specs.Derivations.{Base}
 use Rattle.saturation.specs.declared.places.Position.{Position}
 use Rattle.saturation.specs.declared.places.Position.TheVariants.{First, Second, Third}
 use Rattle.saturation.specs.Tables.{State, row_at, statement_at, turn_at, OpenAt, Absent, has_room}
+use Rattle.saturation.specs.Classes.{class_of, second_class, third_class}
 use Rattle.saturation.specs.Places.{Step}
 use Rattle.saturation.specs.Offering.{Apart, BestOf, Grown, RowsRight}
 
@@ -79,6 +80,15 @@ linked rule p q =
     (cond (rule == 16) (p.shape == 5 && (q.shape == 6 && p.fourth == q.third))
     false))))))))))
 
+-- the same of three, by the names alone
+abbrev pub all_linked : ℕ → Statement → Statement → Statement → Bool
+all_linked rule p q r =
+    cond (rule == 3) (p.second == r.first && q.second == r.second)
+    (cond (rule == 14) (p.fourth == q.fourth && p.third == r.second)
+    (cond (rule == 15) (p.third == r.second && q.third == r.third)
+    (cond (rule == 17) (p.fifth == r.second && q.fifth == r.third)
+    false)))
+
 -- what is to be offered around the newest n and one other premise i, by a rule with two
 abbrev pub Pair : {G : Type 0} → Algebra G → ℕ → ℕ → ℕ → ℕ → List (Statement × G) → Statement × G → Type 0
 Pair a individuals rule n i settled o = Step a individuals settled rule (n ∷ i ∷ []) o ⊎ Step a individuals settled rule (i ∷ n ∷ []) o
@@ -88,6 +98,12 @@ abbrev pub arranged : {X : Type 0} → Position → X → X → X → List X
 arranged First n i j = n ∷ i ∷ j ∷ []
 arranged Second n i j = i ∷ n ∷ j ∷ []
 arranged Third n i j = i ∷ j ∷ n ∷ []
+
+-- the class of the one at j, where three are arranged so
+abbrev pub left_class : ℕ → Position → ℕ
+left_class rule First = third_class rule
+left_class rule Second = third_class rule
+left_class rule Third = second_class rule
 
 -- no conclusion with x at this position, and y and some third at the others
 abbrev pub NeverGoes : ℕ → Position → Statement → Statement → Type 0
@@ -108,3 +124,11 @@ pub data Around {G : Type 0} (a : Algebra G) (individuals rule n i : ℕ) (settl
   around_one : i ≡ n → Step a individuals settled rule (n ∷ []) o → Around a individuals rule n i settled o
   around_two : Pair a individuals rule n i settled o → Around a individuals rule n i settled o
   around_three : AllTriples a individuals rule n i settled o → Around a individuals rule n i settled o
+
+-- the one at i is settled, and of class c
+abbrev pub OfClass : {G : Type 0} → List (Statement × G) → ℕ → ℕ → Type 0
+OfClass {G} settled c i = (i < length settled) × ((d : Statement × G) → class_of (slice_index_or settled i d).0 ≡ c)
+
+-- all that a rule gives around n and each of class c
+abbrev pub BesideClass : {G : Type 0} → Algebra G → ℕ → ℕ → ℕ → ℕ → List (Statement × G) → Statement × G → Type 0
+BesideClass a individuals rule n c settled o = (i : ℕ) × OfClass settled c i × Around a individuals rule n i settled o

@@ -4,7 +4,7 @@ ghost use Rattle.standpoint.specs.RuleNumbers.{number_of_rule};
 ghost use Rattle.standpoint.specs.Rules.{listed};
 ghost use Rattle.saturation.specs.Tables.{view, Same};
 ghost use Rattle.saturation.specs.Places.{listed_places, statements_of, grades_of, joined, Step};
-ghost use Rattle.saturation.specs.Searching.{premises_in, SettledPlaces, GivesNothing, linked, Went};
+ghost use Rattle.saturation.specs.Searching.{premises_in, SettledPlaces, GivesNothing, linked, all_linked, Went};
 
 use crate::places::Places;
 use crate::rows::NoRow;
@@ -62,6 +62,19 @@ fn linked(rule: Rule, p: Statement, q: Statement) -> bool
     }
 }
 
+// Whether three premises, of the shapes that a rule with three asks for, share the names that link them.
+fn all_linked(rule: Rule, p: Statement, q: Statement, r: Statement) -> bool
+    ensures { result ≡ all_linked (number_of_rule rule) p q r }
+{
+    match rule {
+        Rule::SharperThanBoth => p.second == r.first && q.second == r.second,
+        Rule::ExistentialWidened => p.fourth == q.fourth && p.third == r.second,
+        Rule::ExistentialChained => p.third == r.second && q.third == r.third,
+        Rule::ConjunctionMet => p.fifth == r.second && q.fifth == r.third,
+        _ => false,
+    }
+}
+
 // That places are settled is said by each call, since they are places in this very table.
 impl<'a, G: Copy> Table<'a, G> {
     // The statements settled at these places.
@@ -108,7 +121,13 @@ impl<'a, G: Copy> Table<'a, G> {
                 let q = self.settled_statement(j);
                 linked(rule, p, q)
             }
-            _ => true,
+            Places::Three(i, j, k) => {
+                let p = self.settled_statement(i);
+                let q = self.settled_statement(j);
+                let r = self.settled_statement(k);
+                all_linked(rule, p, q, r)
+            }
+            Places::One(_) => true,
         }
     }
 

@@ -9,7 +9,9 @@ pub use table::Table;
 pub use turn::Turn;
 
 mod attempt;
+mod buckets;
 mod choose;
+mod class;
 mod memory;
 mod offer;
 mod phase;

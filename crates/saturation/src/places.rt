@@ -1,9 +1,10 @@
 // Places of premises.
 ghost use Rattle.std.specs.Prelude.{◌≡◌};
 ghost use Rattle.saturation.specs.Places.{listed_places, kept_of};
-ghost use Rattle.saturation.specs.Searching.{SettledPlaces, arranged};
+ghost use Rattle.saturation.specs.Searching.{SettledPlaces, arranged, left_class};
 ghost use Rattle.standpoint.specs.RuleNumbers.{number_of_rule};
 
+use crate::class::{second_class, third_class};
 use crate::row::Kept;
 use standpoint::Rule;
 
@@ -45,6 +46,16 @@ impl Places {
 }
 
 impl Position {
+    // The class of the last of three places that are arranged so.
+    pub(crate) fn left_class(self, rule: Rule) -> usize
+        ensures { result ≡ left_class (number_of_rule rule) self }
+    {
+        match self {
+            Position::First | Position::Second => third_class(rule),
+            Position::Third => second_class(rule),
+        }
+    }
+
     // Three places, the newest at this position, and i before j.
     pub(crate) fn arrange(self, newest: usize, i: usize, j: usize) -> Places
         ensures { listed_places result ≡ arranged self newest i j }

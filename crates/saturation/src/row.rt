@@ -37,8 +37,14 @@ pub struct Row {
     pub place: Option<usize>,
     // A column of its own, since no memory but the lent rows is at hand: in the k-th row, from 0, the row that was settled k-th.
     pub turn: usize,
+    // A column of its own: in the k-th row the settling place, from 1, of the last of its class settled before the k-th; 0 is none.
+    pub earlier: usize,
     // A column of its own: stands only while steps are written out.
     pub mark: bool,
+    // A column of its own: in the b-th row, from 0, the last taken row of bucket b; where there is none, whatever the memory held.
+    pub head: usize,
+    // The last row before this one in the same bucket.
+    pub link: Option<usize>,
 }
 
 impl Row {
@@ -48,6 +54,9 @@ impl Row {
         kept: Kept::ACCEPTED,
         place: None,
         turn: 0,
+        earlier: 0,
         mark: false,
+        head: 0,
+        link: None,
     };
 }

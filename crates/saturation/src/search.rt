@@ -1,11 +1,13 @@
 // The search for what follows from the newest settled statement.
-ghost use Rattle.std.specs.Prelude.{◌≡◌, ◌<◌, false, is_ok, length};
+ghost use Rattle.std.specs.Prelude.{◌≡◌, ◌≢◌, ◌<◌, false, is_ok, length};
 ghost use Rattle.standpoint.specs.RuleNumbers.{number_of_rule};
+ghost use Rattle.standpoint.specs.Rules.{arity_of};
 ghost use Rattle.saturation.specs.Tables.{view, Same, statement_at, turn_at};
 ghost use Rattle.saturation.specs.Places.{Uses};
-ghost use Rattle.saturation.specs.Searching.{NeverGoes, Went, Pair, Triples, AllTriples, Around};
+ghost use Rattle.saturation.specs.Searching.{NeverGoes, Went, Pair, Triples, AllTriples, Around, BesideClass};
 
 use crate::attempt::Inference;
+use crate::class::{CLASSES, class_of, together};
 use crate::places::{Places, Position};
 use crate::rows::NoRow;
 use crate::table::Table;
@@ -58,9 +60,11 @@ impl<'a, G: Copy> Table<'a, G> {
         if !self.may_go(inference.rule, position, newest, i) {
             return Ok(());
         }
-        // By place, here and in `search`: each attempt may take or change rows.
-        for j in 0..self.settled {
+        let mut place = self.latest[position.left_class(inference.rule)];
+        while place > 0 {
+            let j = place - 1;
             self.attempt(inference, position.arrange(newest, i, j))?;
+            place = self.rows[j].earlier;
         }
         Ok(())
     }
@@ -81,24 +85,67 @@ impl<'a, G: Copy> Table<'a, G> {
         self.triples(inference, Position::Third, newest, i)
     }
 
-    // All that the rule gives from the newest, the one settled at i, and any third.
+    // All that a rule with several premises gives from the newest, the one settled at i, and any third.
     fn around<K: Kind<Grade = G>>(
         &mut self,
         inference: &Inference<'_, K>,
         newest: usize,
         i: usize,
     ) -> Result<(), NoRow>
-        requires { (newest < self.old.settled) × (i < self.old.settled) }
+        requires { (newest < self.old.settled) × (i < self.old.settled) × (arity_of (number_of_rule inference.now.rule) ≢ 1) }
         ensures same { Same self.old self.new }
         ensures state { Went (K.Kind.algebra inference.now.kind.now) inference.now.individuals (view self.old) (view self.new) (Around (K.Kind.algebra inference.now.kind.now) inference.now.individuals (number_of_rule inference.now.rule) newest i) (λ l. Uses (K.Kind.algebra inference.now.kind.now) inference.now.individuals l newest) (is_ok result) }
     {
-        // A match, since each takes other places; what is left is a rule of one premise and another place than the newest.
-        match inference.rule.arity() {
-            1 if i == newest => self.attempt(inference, Places::One(newest)),
-            2 => self.pair(inference, newest, i),
-            3 => self.all_triples(inference, newest, i),
-            _ => Ok(()),
+        if inference.rule.arity() == 2 {
+            self.pair(inference, newest, i)
+        } else {
+            self.all_triples(inference, newest, i)
         }
+    }
+
+    // The same with each one settled of this class, from the last back.
+    fn along<K: Kind<Grade = G>>(
+        &mut self,
+        inference: &Inference<'_, K>,
+        newest: usize,
+        class: usize,
+    ) -> Result<(), NoRow>
+        requires { (newest < self.old.settled) × (class < 10) × (arity_of (number_of_rule inference.now.rule) ≢ 1) }
+        ensures same { Same self.old self.new }
+        ensures state { Went (K.Kind.algebra inference.now.kind.now) inference.now.individuals (view self.old) (view self.new) (BesideClass (K.Kind.algebra inference.now.kind.now) inference.now.individuals (number_of_rule inference.now.rule) newest class) (λ l. Uses (K.Kind.algebra inference.now.kind.now) inference.now.individuals l newest) (is_ok result) }
+    {
+        let mut place = self.latest[class];
+        while place > 0 {
+            let i = place - 1;
+            self.around(inference, newest, i)?;
+            place = self.rows[i].earlier;
+        }
+        Ok(())
+    }
+
+    // All that the rule gives from the newest, each one settled of this class, and any third: the newest alone, where the rule has
+    // one premise.
+    fn beside<K: Kind<Grade = G>>(
+        &mut self,
+        inference: &Inference<'_, K>,
+        newest: usize,
+        class: usize,
+    ) -> Result<(), NoRow>
+        requires { (newest < self.old.settled) × (class < 10) }
+        ensures same { Same self.old self.new }
+        ensures state { Went (K.Kind.algebra inference.now.kind.now) inference.now.individuals (view self.old) (view self.new) (BesideClass (K.Kind.algebra inference.now.kind.now) inference.now.individuals (number_of_rule inference.now.rule) newest class) (λ l. Uses (K.Kind.algebra inference.now.kind.now) inference.now.individuals l newest) (is_ok result) }
+    {
+        let own = class_of(self.settled_statement(newest));
+        if inference.rule.arity() == 1 {
+            if class != own {
+                return Ok(());
+            }
+            return self.attempt(inference, Places::One(newest));
+        }
+        if !together(inference.rule, own, class) {
+            return Ok(());
+        }
+        self.along(inference, newest, class)
     }
 
     // Offers all that follows by one rule from settled statements, the newest among them; the first that finds no row ends it.
@@ -120,8 +167,8 @@ impl<'a, G: Copy> Table<'a, G> {
                 individuals,
                 rule,
             };
-            for i in 0..self.settled {
-                outcome = self.around(&inference, newest, i);
+            for class in 0..CLASSES {
+                outcome = self.beside(&inference, newest, class);
                 if outcome.is_err() {
                     break 'search;
                 }

@@ -1,9 +1,12 @@
 // One turn of a run.
-ghost use Rattle.std.specs.Prelude.{◌≡◌, ◌+◌, ◌<◌};
+ghost use Rattle.std.specs.Prelude.{◌≡◌, ◌+◌, ◌<◌, slice_index};
 ghost use Rattle.saturation.specs.Phases.{sizes_of};
-ghost use Rattle.saturation.specs.Tables.{view, Same, settled_row};
+ghost use Rattle.saturation.specs.Tables.{view, Same, statement_at, settled_row};
+ghost use Rattle.saturation.specs.Classes.{class_of};
 ghost use Rattle.saturation.specs.Turns.{Turned};
 
+use crate::class::class_of;
+use crate::row::Row;
 use crate::rows::NoRow;
 use crate::table::Table;
 use standpoint::Kind;
@@ -47,15 +50,22 @@ impl<'a, G: Copy> Table<'a, G> {
         self.sizes().map_or(0, |sizes| sizes.individuals)
     }
 
-    // Row i is settled in the next turn.
+    // Row i is settled in the next turn, and linked to the last before it of its class.
     fn settle_row(&mut self, i: usize)
         requires { (i < self.old.len) × (self.old.settled < self.old.len) }
         ensures same { Same self.old self.new }
-        ensures state { view self.new ≡ settled_row (view self.old) i }
+        ensures state { view self.new ≡ settled_row (view self.old) i (slice_index self.old.latest (class_of (statement_at (view self.old) i))) }
     {
         let k = self.settled;
-        self.rows[k].turn = i;
+        let class = class_of(self.rows[i].statement);
+        let row = self.rows[k];
+        self.rows[k] = Row {
+            turn: i,
+            earlier: self.latest[class],
+            ..row
+        };
         self.rows[i].place = Some(k);
+        self.latest[class] = k + 1;
         self.settled = k + 1;
     }
 }

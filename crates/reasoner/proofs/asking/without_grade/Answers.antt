@@ -1,5 +1,8 @@
-use Rattle.reasoner.proofs.Saying.{ended_out, other_room, out_ended, room_not_ended}
+use Rattle.reasoner.proofs.Saying.{ended_out, other_room, out_ended, room_not_ended, full_not_ended}
 use Rattle.reasoner.proofs.asking.without_grade.Goals as goal
+
+pub returns-in-Full : goal.returns-in-Full
+returns-in-Full g c = λ a b l h. full_not_ended a b c.args.reasoner.now c.in-Full.is h
 
 pub returns-in-Ended : goal.returns-in-Ended
 returns-in-Ended g c =
