@@ -48,9 +48,6 @@ module _ {G : Type 0} where
     pub stands_same : (base : Base G) (s t : Table G) → Unchanged s t → StandsFor al (based base) s → StandsFor al (based base) t
     stands_same base s t u h = (u.1 ∙ h.0, h.1, rw u.0 h.2)
 
-    pub accepts_same : (b p : ℕ) (s t : Table G) → Unchanged s t → AcceptsBefore al decoded file b p s → AcceptsBefore al decoded file b p t
-    accepts_same b p s t u h = (h.0, h.1, stands_same (accepting_all (sizes_in file) h.0) s t u h.2)
-
     -- what add makes of the record whose code n, grade g and statement x are read
     module _ (b p n : ℕ) (r : Result G Refusal) (g : G) (x : Statement) (s t : Table G) where
       module _ (code : n ≡ code_of file b p) (read : r ≡ or_no_grade (decoded n)) (right : r ≡ Ok g) (is : x ≡ statement_in file b p) where

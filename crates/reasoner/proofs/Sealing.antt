@@ -1,5 +1,5 @@
 -- A settle seals the base and goes on with the run.
-use Rattle.std.proofs.Common.{◌≡◌, ℕ, false, ◌++◌, refl, sym, ap, ◌∙◌, subst}
+use Rattle.std.proofs.Common.{◌≡◌, ℕ, Bool, true, false, ◌++◌, refl, sym, ap, ◌∙◌, subst}
 use Rattle.standpoint.specs.Sizes.{InRange}
 use Rattle.standpoint.specs.Algebra.{Algebra}
 use Rattle.standpoint.specs.Derivations.{Base}
@@ -13,7 +13,12 @@ use Rattle.saturation.specs.Phases.{sizes_of, sealed_run, sealed_phase}
 use Rattle.saturation.specs.Tables.{State, view, capacity, Same}
 use Rattle.saturation.specs.Saturation.{Holds, HoldsAs, Settles}
 use Rattle.reasoner.specs.Models.{StandsFor}
-use Rattle.reasoner.specs.Calls.{is_full, after, SettlesOn}
+use Rattle.reasoner.specs.Calls.{after, SettlesOn}
+
+abbrev pub is_full : Stand → Bool
+is_full Open = false
+is_full Ended = false
+is_full Full = true
 
 pub not_full : (stand : Stand) → (stand ≡ Full → ⊥) → is_full stand ≡ false
 not_full Open other = refl

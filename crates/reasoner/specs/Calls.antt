@@ -1,5 +1,5 @@
 -- What each call answers, and what it makes of a reasoner.
-use Rattle.std.specs.Prelude.{◌≡◌, ℕ, ◌<◌, ◌≤◌, Bool, true, false, ◌⊎◌, List, [], ◌++◌, length, Ok, Err, Result}
+use Rattle.std.specs.Prelude.{◌≡◌, ℕ, ◌<◌, ◌≤◌, true, false, ◌⊎◌, List, [], ◌++◌, length, Ok, Err, Result}
 use Rattle.standpoint.specs.declared.refusal.Refusal.{Refusal}
 use Rattle.standpoint.specs.declared.refusal.Refusal.TheVariants.{NotBegun, SizesOutOfRange, TooFewRows, DoesNotFit, MisplacedIndividual, Sealed, RowsTaken}
 use Rattle.standpoint.specs.declared.sizes.Sizes.{Sizes}
@@ -49,11 +49,6 @@ Adds {G} a x g s t (Ok _) =
 Adds {G} a x g s t (Err e) =
     Unchanged s t × AddRefused s x e
     × ((b : Base G) → StandsFor a (based b) s → e ≡ RowsTaken → (Known a b [] x → ⊥) × AllRowsTaken a b (capacity (view s)))
-
-abbrev pub is_full : Stand → Bool
-is_full Open = false
-is_full Ended = false
-is_full Full = true
 
 -- a run after a settle
 abbrev pub after : {G : Type 0} → Base G → Settled G → Stand → Model G

@@ -1,8 +1,9 @@
 -- What is promised at every place of a list of calls.
-use Rattle.std.proofs.Common.{◌≡◌, ℕ, suc, ◌+◌, ◌≤◌, false, ◌↔◌, List, length, take, drop, Ok, Err, Result, sym, refl, ap, ◌∙◌, subst, ⊎_elim, arith, length-drop, length-take, take-take}
+use Rattle.std.proofs.Common.{◌≡◌, ℕ, suc, ◌+◌, ◌<◌, ◌≤◌, min, false, ◌↔◌, ◌⊎◌, List, length, take, drop, Ok, Err, Result, sym, refl, ap, ◌∙◌, subst, inl, inr, ⊎_elim, arith, length-drop, length-take, take-take}
 use borrow.Author.Tests.{both_ways}
 use Rattle.std.proofs.lemmas.List.{drop-take}
 use Rattle.standpoint.specs.declared.refusal.Refusal.{Refusal}
+use Rattle.standpoint.specs.declared.refusal.Refusal.TheVariants.{BufferTooShort}
 use Rattle.standpoint.specs.declared.statement.Statement.{Statement}
 use Rattle.standpoint.specs.declared.step.Step.{Step}
 use Rattle.standpoint.specs.Lists.{In}
@@ -93,21 +94,23 @@ module _ {G : Type 0} (a : Algebra G) (laws : Laws a) where
       over (not_yet nothing asleep) within = absurd (both_ways _ asleep within.explains.0.begun)
       over (begun l some holding number) within = (within.meaning a laws p.base l holding).1
 
-  -- a settled statement is explained where a place for each settled one is left
+  -- a settled statement is explained, or there are fewer places than settled ones
   explained_or : {p : Past G} {s : Table G} (tied : Tied a p s) (x : Statement) (g : G) (most : ℕ) (room left : List (Step G)) (r : Result ℕ Refusal) →
-      ExplainsWithin x most s room left r → In (settled_in tied) (x, g) → p.settled ≤ most → p.settled ≤ length room → (count : ℕ) × (r ≡ Ok count)
-  explained_or tied x g most room left (Ok count) within m wide long = (count, refl)
-  explained_or (not_yet nothing asleep) x g most room left (Err e) within m wide long = absurd m
-  explained_or {p} {s} (begun l some holding number) x g most room left (Err e) within m wide long =
-      absurd (no_reason e (within.meaning a laws p.base l holding))
+      ExplainsWithin x most s room left r → In (settled_in tied) (x, g) →
+      ((count : ℕ) × (r ≡ Ok count)) ⊎ ((r ≡ Err BufferTooShort) × (min most (length room) < p.settled))
+  explained_or tied x g most room left (Ok count) within m = inl (count, refl)
+  explained_or (not_yet nothing asleep) x g most room left (Err e) within m = absurd m
+  explained_or {p} {s} (begun l some holding number) x g most room left (Err e) within m =
+      inr (only_reason e (within.meaning a laws p.base l holding))
     where
-      no_reason : (e : Refusal) → Unexplained p.base l x (length (take within.places room)) e → ⊥
-      no_reason _ (does_not_fit misfit) = misfit (derived_fits a p.base (held holding).in_range (settled_derives a p.base (held holding).run x g m))
-      no_reason _ (unsettled un) = un g m
-      no_reason _ (too_short h other short) =
+      only_reason : (e : Refusal) → Unexplained p.base l x (length (take within.places room)) e →
+          (◌≡◌ {A = Result ℕ Refusal} (Err e) (Err BufferTooShort)) × (min most (length room) < p.settled)
+      only_reason _ (does_not_fit misfit) = absurd (misfit (derived_fits a p.base (held holding).in_range (settled_derives a p.base (held holding).run x g m)))
+      only_reason _ (unsettled un) = absurd (un g m)
+      only_reason _ (too_short h other short) =
           let cut = length-take within.places room in
           let most_is = within.at_most in
-          omega arith
+          (refl, omega arith)
 
   module _ (calls : List (Call G)) (os : List (Outcome G)) (first : Table G) (steps : List (Step G)) (asleep : is_begun first.phase ≡ false) where
     module _ {n : ℕ} {t : Table G} {end : List (Step G)} (all : Performed a calls os first steps n t end) where
@@ -175,16 +178,30 @@ module _ {G : Type 0} (a : Algebra G) (laws : Laws a) where
           (e.grade, e.passes, (e.derived, e.best))
 
       pub grades_are_explained : GradesAreExplained a calls os n end
-      grades_are_explained i j x g most (i-below, is-asked, is_said) before-j below same is_call wide room =
-          let at = place a calls os first steps all j below in
-          let w = written os j in
-          let tied = tied_at a calls os first steps asleep at.so_far in
-          let known = asked_settled at.so_far i x g (before-j, is-asked, is_said) same in
-          let here : Performs a (Explain x most) (outcome_at os j) at.from at.to (drop w at.room) (drop w at.left) =
-          subst (λ (c : Call G). Performs a c (outcome_at os j) at.from at.to (drop w at.room) (drop w at.left)) is_call at.here in
-          let left : (before calls os j).settled ≤ length (drop w at.room) = let long = at.long in let cut = length-drop w at.room in omega arith in
-          let answer = explained_or tied x g most (drop w at.room) (drop w at.left) here.1.0 here.1.2 known.0 wide left in
-          let is_o : outcome_at os j ≡ Ok (Explained answer.0) = here.1.1 ∙ ap (λ (r : Result ℕ Refusal). as_outcome Explained r) answer.1 in
-          let e = explanation_at j x most answer.0 at is_call is_o in
+      grades_are_explained i j x g most (i-below, is-asked, is_said) before-j below same is_call =
+          ⊎_elim
+          (λ given. inl (
+          let is_o : outcome_at os j ≡ Ok (Explained given.0) = here.1.1 ∙ ap (λ (r : Result ℕ Refusal). as_outcome Explained r) given.1 in
+          let e = explanation_at j x most given.0 at is_call is_o in
           let once : e.grade ≡ g = settled_once a (before calls os j).base (run_of tied (x, g) known.0) x e.grade g e.settled known.0 in
-          (answer.0, is_o, subst (λ (b : Base G). Passes a b (written_at a calls os n end j answer.0) x g) known.1 (subst (Passes a (before calls os j).base (written_at a calls os n end j answer.0) x) once e.passes))
+          (given.0, is_o, subst (λ (b : Base G). Passes a b (written_at a calls os n end j given.0) x g) known.1 (subst (Passes a (before calls os j).base (written_at a calls os n end j given.0) x) once e.passes))))
+          (λ short. inr (
+            here.1.1 ∙ ap (λ (r : Result ℕ Refusal). as_outcome Explained r) short.0,
+            let few = short.1 in let long = at.long in let cut = length-drop w at.room in omega arith,
+          ))
+          (explained_or tied x g most (drop w at.room) (drop w at.left) here.1.0 here.1.2 known.0)
+        where
+          at : Place a calls os first steps end j
+          at = place a calls os first steps all j below
+
+          w : ℕ
+          w = written os j
+
+          tied : Tied a (before calls os j) at.from
+          tied = tied_at a calls os first steps asleep at.so_far
+
+          known : In (settled_in tied) (x, g) × ((before calls os j).base ≡ (before calls os i).base)
+          known = asked_settled at.so_far i x g (before-j, is-asked, is_said) same
+
+          here : Performs a (Explain x most) (outcome_at os j) at.from at.to (drop w at.room) (drop w at.left)
+          here = subst (λ (c : Call G). Performs a c (outcome_at os j) at.from at.to (drop w at.room) (drop w at.left)) is_call at.here

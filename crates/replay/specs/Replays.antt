@@ -1,5 +1,6 @@
 -- What every list of calls keeps, at every place.
-use Rattle.std.specs.Prelude.{◌≡◌, ℕ, ◌+◌, ◌<◌, ◌≤◌, false, ◌↔◌, List, length, take, drop, Ok}
+use Rattle.std.specs.Prelude.{◌≡◌, ℕ, ◌-◌, ◌<◌, min, false, ◌↔◌, ◌⊎◌, List, length, take, drop, Ok, Err}
+use Rattle.standpoint.specs.declared.refusal.Refusal.TheVariants.{BufferTooShort}
 use Rattle.standpoint.specs.declared.statement.Statement.{Statement}
 use Rattle.standpoint.specs.declared.step.Step.{Step}
 use Rattle.standpoint.specs.Algebra.{Algebra}
@@ -76,9 +77,10 @@ module _ {G : Type 0} (a : Algebra G) (calls : List (Call G)) (outcomes : List (
     ExplanationsPass = (j : ℕ) (x : Statement) (most count : ℕ) → j < n → call_at calls j ≡ Explain x most → outcome_at outcomes j ≡ Ok (Explained count) →
         (g : G) × Passes a (base_at j) (written_at j count) x g × BestGrade a (base_at j) x g
 
-    -- where ask gave a grade, an explanation since, with no begin between, is given on a place for each settled statement, and passes the check at that grade
+    -- where ask gave a grade, an explanation since, with no begin between, is given and passes the check at that grade; or it had too few places, fewer than
+    -- there are settled statements. (An explanation before it passes too, and there is but one best grade.)
     abbrev pub GradesAreExplained : Type 0
     GradesAreExplained = (i j : ℕ) (x : Statement) (g : G) (most : ℕ) → Told i x (Graded g) → i < j → j < n →
         (before calls outcomes j).begins ≡ (before calls outcomes i).begins → call_at calls j ≡ Explain x most →
-        (before calls outcomes j).settled ≤ most → written outcomes j + (before calls outcomes j).settled ≤ length steps →
-        (count : ℕ) × (outcome_at outcomes j ≡ Ok (Explained count)) × Passes a (base_at i) (written_at j count) x g
+        ((count : ℕ) × (outcome_at outcomes j ≡ Ok (Explained count)) × Passes a (base_at i) (written_at j count) x g)
+        ⊎ ((outcome_at outcomes j ≡ Err BufferTooShort) × (min most (length steps - written outcomes j) < (before calls outcomes j).settled))

@@ -87,9 +87,6 @@ module _ {G : Type 0} (a : Algebra G) (base : Base G) where
   apart_run (settles {settled} {x} {g} run next) =
       subst Apart (sym (map-append _ settled ((x, g) ∷ []))) (apart_push (statements settled) x (apart_run run) (none_of settled x next.unsettled))
 
-  pub distinct_run : {settled : Settled G} → Run a base settled → Distinct (statements settled)
-  distinct_run {settled} run = apart_distinct (statements settled) (apart_run run)
-
   pub settled_once : {settled : Settled G} → Run a base settled → (x : Statement) (g h : G) → In settled (x, g) → In settled (x, h) → g ≡ h
   settled_once fresh x g h m n = elim m [ ]
   settled_once (settles {settled} {x = y} {g = i} run next) x g h m n = elim (new_or_old settled (y, i) (x, g) m) [

@@ -1,8 +1,7 @@
 use Rattle.std.proofs.Common.{◌≡◌, true, false, [], sym, ap, ◌∙◌, ⊎_elim}
 use borrow.Author.Tests.{both_ways}
 use Rattle.saturation.specs.Phases.{is_begun, stands_full, sealed_phase}
-use Rattle.reasoner.specs.Calls.{is_full}
-use Rattle.reasoner.proofs.Sealing.{not_full, settled_on}
+use Rattle.reasoner.proofs.Sealing.{is_full, not_full, settled_on}
 use Rattle.reasoner.proofs.calls.settle.Goals as goal
 use Rattle.reasoner.proofs.calls.settle.Goals.{in-Full-matches, in_default}
 
