@@ -1,11 +1,14 @@
 -- Rows whose marks below a place are taken back.
-use Rattle.std.proofs.Common.{◌≡◌, ℕ, ◌-◌, ◌+◌, ◌<◌, ◌≤◌, false, List, ◌++◌, length, map, take, drop, get_or, sym, ap, ◌∙◌, subst, ⊎_elim, arith, length-append}
+use Rattle.std.proofs.Common.{◌≡◌, ℕ, ◌-◌, ◌+◌, ◌<◌, ◌≤◌, Bool, false, List, ◌++◌, length, map, take, drop, get_or, sym, refl, ap, ◌∙◌, subst, ⊎_elim, arith, length-append}
+use borrow.Author.Tests.{both_ways}
 use Rattle.std.proofs.lemmas.List.{get_or_append_left, get_or-append_right, get_or-map, get_or-take, get_or-drop, length-map, length-take-le, length-drop}
 use Rattle.saturation.specs.declared.row.Row.{Row}
-use Rattle.saturation.specs.Rows.{no_row, TurnsWithin}
+use Rattle.saturation.specs.Rows.{no_row}
 use Rattle.saturation.specs.declared.table.Table.{Table}
 use Rattle.saturation.specs.Tables.{State, row_at}
 use Rattle.saturation.proofs.Offers.{below_or}
+use Rattle.saturation.proofs.Indexing.{heads_kept, links_kept}
+use Rattle.saturation.proofs.RowFacts.{RowFacts}
 use Rattle.explanation.specs.Marks.{remarked, Clean, ButMarks}
 
 pub settled_rows : {G : Type 0} (t : Table G) → t.settled ≤ length t.rows.now
@@ -15,7 +18,7 @@ module _ (rows : List Row) (n : ℕ) (fit : n ≤ length rows) (part : List Row)
   part_long : length part ≡ n
   part_long = ap length is ∙ length-map (take n rows) (λ (r : Row). remarked r false) ∙ length-take-le n rows fit
 
-  pub cleared_long : length (part ++ drop n rows) ≡ length rows
+  cleared_long : length (part ++ drop n rows) ≡ length rows
   cleared_long = let p = part_long in let d = length-drop n rows in let a = length-append part (drop n rows) in omega arith
 
   below_cleared : (k : ℕ) → k < n → get_or (part ++ drop n rows) k no_row ≡ remarked (get_or rows k no_row) false
@@ -33,8 +36,22 @@ module _ (rows : List Row) (n : ℕ) (fit : n ≤ length rows) (part : List Row)
       ∙ get_or-drop n rows (k - n) no_row
       ∙ ap (λ (j : ℕ). get_or rows j no_row) (let e : n + (k - n) ≡ k = omega arith in e)
 
-  pub cleared_turns : (len : ℕ) → TurnsWithin rows n len → TurnsWithin (part ++ drop n rows) n len
-  cleared_turns len turns k h = subst (λ (t : ℕ). t < len) (sym (ap (λ (r : Row). r.turn) (below_cleared k h))) (turns k h)
+  -- each column but the marks
+  cleared_column : {X : Type 0} (f : Row → X) → ((r : Row) → f (remarked r false) ≡ f r) → (k : ℕ) → f (get_or (part ++ drop n rows) k no_row) ≡ f (get_or rows k no_row)
+  cleared_column f apart k = ⊎_elim (λ lt. ap f (below_cleared k lt) ∙ apart (get_or rows k no_row)) (λ ge. ap f (above_cleared k ge)) (below_or k n)
+
+  pub cleared_facts : (len : ℕ) (begun : Bool) → begun ≡ false → RowFacts rows n len begun → RowFacts (part ++ drop n rows) n len begun
+  cleared_facts len begun off f =
+      let fits = f.fits in
+      let long = cleared_long in
+      let statement = cleared_column (λ (r : Row). r.statement) (λ r. refl) in
+      record {
+        fits = omega arith;
+        turns = λ k h. subst (λ (t : ℕ). t < len) (sym (cleared_column (λ (r : Row). r.turn) (λ r. refl) k)) (f.turns k h);
+        marks = λ on. absurd (both_ways _ off on);
+        heads = heads_kept rows (part ++ drop n rows) cleared_long len statement (cleared_column (λ (r : Row). r.head) (λ r. refl)) f.heads;
+        links = links_kept rows (part ++ drop n rows) cleared_long len statement (cleared_column (λ (r : Row). r.link) (λ r. refl)) f.links;
+      }
 
   module _ {G : Type 0} (s u : State G) (of : s.rows ≡ rows) (at : s.settled ≡ n) (new : u.rows ≡ part ++ drop n rows) (len : u.len ≡ s.len) (settled : u.settled ≡ s.settled) (grades : u.grades ≡ s.grades) where
     row_below : (k : ℕ) → k < n → row_at u k ≡ remarked (row_at s k) false

@@ -3,7 +3,6 @@ use Rattle.std.specs.Prelude.{◌≡◌, ℕ, ◌+◌, ◌<◌, ◌≤◌, Bool,
 use Rattle.standpoint.specs.declared.refusal.Refusal.{Refusal}
 use Rattle.standpoint.specs.declared.refusal.Refusal.TheVariants.{RestsOnLater}
 use Rattle.saturation.specs.declared.row.Row.{Row}
-use Rattle.saturation.specs.Rows.{row}
 use Rattle.saturation.specs.Tables.{State, row_at, with_row}
 use Rattle.explanation.specs.Needed.{Rests, Needed, Unfounded}
 
@@ -11,7 +10,7 @@ abbrev pub mark_at : {G : Type 0} → State G → ℕ → Bool
 mark_at s k = (row_at s k).mark
 
 abbrev pub remarked : Row → Bool → Row
-remarked r b = row r.statement r.kept r.place r.turn b
+remarked r b = record r { mark = b }
 
 abbrev pub with_mark : {G : Type 0} → State G → ℕ → Bool → State G
 with_mark s k b = with_row s k (remarked (row_at s k) b)

@@ -1,5 +1,7 @@
+pub mod Writing
+pub mod Indexing
+pub mod RowFacts
 pub mod Offers
-pub mod Finding
 pub mod Lists
 pub mod Numbering
 pub mod Sameness

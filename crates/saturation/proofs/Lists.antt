@@ -1,7 +1,6 @@
 -- The settled list, and what was offered.
 use Rattle.std.proofs.Common.{◌≡◌, ℕ, ◌<◌, ◌≤◌, ◌⊎◌, List, [], ◌∷◌, ◌++◌, get_or, sym, ap, ◌∙◌, inl, inr, ⊎_elim, arith}
 use Rattle.standpoint.specs.declared.statement.Statement.{Statement}
-use Rattle.saturation.specs.declared.row.Row.{Row}
 use Rattle.standpoint.specs.Lists.{In, StandsAt}
 use Rattle.saturation.specs.Rows.{TurnsWithin}
 use Rattle.saturation.specs.Tables.{State, row_at, statement_at, turn_at}
@@ -33,20 +32,18 @@ pub lists_grown : {G : Type 0} (s t : State G) (l : List (Statement × G)) → F
 lists_grown {G} s t l fit g is =
     let back : (k : ℕ) → k < t.settled → k < s.settled = λ k h. let e = g.settled in omega arith in
     let turn = turn_kept s t fit g in
-    let whole : (k : ℕ) → k < s.settled → (row_at t (turn_at s k) ≡ row_at s (turn_at s k)) × ((d : G) → get_or t.grades (turn_at s k) d ≡ get_or s.grades (turn_at s k) d) =
-    λ k h. g.kept (turn_at s k) (fit.1 k h) (not_both _ k (is.marked k h)) in
+    let grade : (k : ℕ) → k < s.settled → (d : G) → get_or t.grades (turn_at s k) d ≡ get_or s.grades (turn_at s k) d = λ k h. (g.kept (turn_at s k) (fit.1 k h) (not_both _ k (is.marked k h))).1 in
     record {
       long = is.long ∙ sym g.settled;
       holds = λ k h d.
           let h' = back k h in
-          let w = whole k h' in
           let p = is.holds k h' d in (
-            ap (statement_at t) (turn k h') ∙ ap (λ (r : Row). r.statement) w.0 ∙ p.0,
-            λ e. ap (λ (j : ℕ). get_or t.grades j e) (turn k h') ∙ w.1 e ∙ p.1 e,
+            ap (statement_at t) (turn k h') ∙ g.statements (turn_at s k) (fit.1 k h') ∙ p.0,
+            λ e. ap (λ (j : ℕ). get_or t.grades j e) (turn k h') ∙ grade k h' e ∙ p.1 e,
           );
       marked = λ k h.
           let h' = back k h in
-          ap (λ (j : ℕ). (row_at t j).place) (turn k h') ∙ ap (λ (r : Row). r.place) (whole k h').0 ∙ is.marked k h';
+          ap (λ (j : ℕ). (row_at t j).place) (turn k h') ∙ g.places (turn_at s k) (fit.1 k h') ∙ is.marked k h';
       back = λ i h un.
           ⊎_elim
           (λ lt. let b = is.back i lt (λ z. un (g.places i lt ∙ z)) in let e = g.settled in let bh = b.1 in (b.0, omega arith, turn b.0 b.1 ∙ b.2))

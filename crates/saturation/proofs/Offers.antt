@@ -11,9 +11,12 @@ use Rattle.saturation.specs.declared.row.Row.{Row}
 use Rattle.standpoint.specs.Lists.{In}
 use Rattle.standpoint.specs.Derivations.{Base}
 use Rattle.saturation.specs.Rows.{no_row}
+use Rattle.saturation.specs.Buckets.{bucket_of, headed}
 use Rattle.saturation.specs.Tables.{State, row_at, statement_at, Absent, has_room, pushed, improved, rekept}
 use Rattle.saturation.specs.Places.{KeptRight}
-use Rattle.saturation.specs.Offering.{Apart, BestOf, Grown, Taken, Keeps}
+use Rattle.saturation.specs.Offering.{Apart, BestOf, Grown, Taken, Outdone, Keeps}
+use Rattle.saturation.proofs.Writing.{write_leaves}
+use Rattle.saturation.proofs.Indexing.{entered_long, entered_old, entered_new}
 
 pub last_or : (i n : ℕ) → i < n + 1 → (i < n) ⊎ (i ≡ n)
 last_or i n h = ⊎_elim (λ t. inr t.1) (λ f. let ne = f.1 in inl (omega arith)) (eqb_tells i n)
@@ -48,8 +51,9 @@ fst_is {G} e = ap (λ (p : Statement × G). p.0) e
 snd_is : {G : Type 0} {x y : Statement} {g h : G} → ◌≡◌ {A = Statement × G} (x, g) (y, h) → g ≡ h
 snd_is {G} e = ap (λ (p : Statement × G). p.1) e
 
-pub same_right : {G : Type 0} (al : Algebra G) (base : Base G) (l : List (Statement × G)) (a b : Row) (g h : G) → a ≡ b → g ≡ h → KeptRight al base l (a.statement, g) a.kept → KeptRight al base l (b.statement, h) b.kept
-same_right al base l a b g h e f k = subst (λ (r : Row). KeptRight al base l (r.statement, h) r.kept) e (subst (λ (v : _). KeptRight al base l (a.statement, v) a.kept) f k)
+same_right : {G : Type 0} (al : Algebra G) (base : Base G) (l : List (Statement × G)) (x y : Statement) (g h : G) (j k : Kept) → x ≡ y → g ≡ h → j ≡ k → KeptRight al base l (x, g) j → KeptRight al base l (y, h) k
+same_right {G} al base l x y g h j k e f i r =
+    subst (λ (v : Statement). KeptRight al base l (v, h) k) e (subst (λ (v : G). KeptRight al base l (x, v) k) f (subst (λ (v : Kept). KeptRight al base l (x, g) v) i r))
 
 pub grown_refl : {G : Type 0} (s : State G) → Grown s s
 grown_refl s = record {
@@ -85,14 +89,27 @@ grown_trans {G} {s} {t} {u} a b =
     }
 
 module _ {G : Type 0} (s : State G) (x : Row) (g : G) (rows_in : s.len < length s.rows) (grades_in : s.len < length s.grades) where
-  old_row : (k : ℕ) → k < s.len → row_at (pushed s x g) k ≡ row_at s k
-  old_row k h = get_or-set_other s.rows s.len k x no_row (λ e. omega arith)
+  -- of the rows each column but the heads
+  old_column : {X : Type 0} (f : Row → X) → ((r : Row) (k : ℕ) → f (headed r k) ≡ f r) → (k : ℕ) → k < s.len → f (row_at (pushed s x g) k) ≡ f (row_at s k)
+  old_column f apart k h = entered_old s.rows s.len x (bucket_of (length s.rows) x.statement) refl rows_in f apart k (λ e. omega arith)
+
+  new_column : {X : Type 0} (f : Row → X) → ((r : Row) (k : ℕ) → f (headed r k) ≡ f r) → (k : ℕ) → k ≡ s.len → f (row_at (pushed s x g) k) ≡ f x
+  new_column f apart k e = ap (λ (j : ℕ). f (row_at (pushed s x g) j)) e ∙ entered_new s.rows s.len x (bucket_of (length s.rows) x.statement) refl rows_in f apart
+
+  statement_old : (k : ℕ) → k < s.len → statement_at (pushed s x g) k ≡ statement_at s k
+  statement_old = old_column (λ (r : Row). r.statement) (λ r k. refl)
+
+  pub statement_new : (k : ℕ) → k ≡ s.len → statement_at (pushed s x g) k ≡ x.statement
+  statement_new = new_column (λ (r : Row). r.statement) (λ r k. refl)
+
+  place_old : (k : ℕ) → k < s.len → (row_at (pushed s x g) k).place ≡ (row_at s k).place
+  place_old = old_column (λ (r : Row). r.place) (λ r k. refl)
+
+  kept_old : (k : ℕ) → k < s.len → (row_at (pushed s x g) k).kept ≡ (row_at s k).kept
+  kept_old = old_column (λ (r : Row). r.kept) (λ r k. refl)
 
   old_grade : (k : ℕ) → k < s.len → (d : G) → get_or (pushed s x g).grades k d ≡ get_or s.grades k d
   old_grade k h d = get_or-set_other s.grades s.len k g d (λ e. omega arith)
-
-  new_row : row_at (pushed s x g) s.len ≡ x
-  new_row = get_or-set_same s.rows s.len x no_row rows_in
 
   new_grade : (d : G) → get_or (pushed s x g).grades s.len d ≡ g
   new_grade d = get_or-set_same s.grades s.len g d grades_in
@@ -101,26 +118,20 @@ module _ {G : Type 0} (s : State G) (x : Row) (g : G) (rows_in : s.len < length 
   pushed_grown un = record {
     more = omega arith;
     settled = refl;
-    statements = λ k h. ap (λ (r : Row). r.statement) (old_row k h);
-    places = λ k h. ap (λ (r : Row). r.place) (old_row k h);
-    turns = λ k h. ap (λ (r : Row). r.turn) (old_row k h);
-    fresh = λ k low h. let e : k ≡ s.len = omega arith in ap (λ (r : Row). r.place) (ap (row_at (pushed s x g)) e ∙ new_row) ∙ un;
-    kept = λ k h p. (old_row k h, old_grade k h);
-    rows_long = length-set s.rows s.len x;
+    statements = statement_old;
+    places = place_old;
+    turns = old_column (λ (r : Row). r.turn) (λ r k. refl);
+    fresh = λ k low h. new_column (λ (r : Row). r.place) (λ r k. refl) k (omega arith) ∙ un;
+    kept = λ k h p. (kept_old k h, old_grade k h);
+    rows_long = entered_long s.rows s.len x (bucket_of (length s.rows) x.statement) refl rows_in;
     grades_long = length-set s.grades s.len g;
   }
-
-  new_at : (i : ℕ) → i ≡ s.len → row_at (pushed s x g) i ≡ x
-  new_at i e = ap (row_at (pushed s x g)) e ∙ new_row
 
   grade_at : (i : ℕ) → i ≡ s.len → (d : G) → get_or (pushed s x g).grades i d ≡ g
   grade_at i e d = ap (λ (k : ℕ). get_or (pushed s x g).grades k d) e ∙ new_grade d
 
   pub pushed_apart : Absent s x.statement → Apart s → Apart (pushed s x g)
   pushed_apart absent apart i j hi hj e =
-      let t = pushed s x g in
-      let statement_old : (k : ℕ) → k < s.len → statement_at t k ≡ statement_at s k = λ k h. ap (λ (r : Row). r.statement) (old_row k h) in
-      let statement_new : (k : ℕ) → k ≡ s.len → statement_at t k ≡ x.statement = λ k e. ap (λ (r : Row). r.statement) (new_at k e) in
       ⊎_elim
       (λ oi. ⊎_elim
       (λ oj. apart i j oi oj (sym (statement_old i oi) ∙ e ∙ statement_old j oj))
@@ -135,15 +146,12 @@ module _ {G : Type 0} (s : State G) (x : Row) (g : G) (rows_in : s.len < length 
   pub pushed_best : (al : Algebra G) → Laws al → Absent s x.statement → (offered : List (Statement × G)) → BestOf al s offered → BestOf al (pushed s x g) ((x.statement, g) ∷ offered)
   pushed_best al l absent off b =
       let t = pushed s x g in
-      let statement_old : (k : ℕ) → k < s.len → statement_at t k ≡ statement_at s k = λ k h. ap (λ (r : Row). r.statement) (old_row k h) in
-      let place_old : (k : ℕ) → k < s.len → (row_at t k).place ≡ (row_at s k).place = λ k h. ap (λ (r : Row). r.place) (old_row k h) in
-      let statement_new : (k : ℕ) → k ≡ s.len → statement_at t k ≡ x.statement = λ k e. ap (λ (r : Row). r.statement) (new_at k e) in
       let reflexive : (v : G) → al.no_worse v v ≡ true = λ v. ⊎_elim (λ e. e) (λ e. e) (l.total v v) in
       record {
         apart = pushed_apart absent b.apart;
         every = λ y h.
             ⊎_elim
-            (λ e. (s.len, omega arith, ap (λ (r : Row). r.statement) new_row ∙ fst_is e))
+            (λ e. (s.len, omega arith, statement_new s.len refl ∙ fst_is e))
             (λ m. let p = b.every y h m in let lt = p.1 in (p.0, omega arith, statement_old p.0 p.1 ∙ p.2));
         from = λ i hi un d.
             ⊎_elim
@@ -167,8 +175,8 @@ module _ {G : Type 0} (s : State G) (x : Row) (g : G) (rows_in : s.len < length 
   pushed_right al base l right all i h un d =
       let t = pushed s x g in
       ⊎_elim
-      (λ oi. same_right al base l (row_at s i) (row_at t i) (get_or s.grades i d) (get_or t.grades i d) (sym (old_row i oi)) (sym (old_grade i oi d)) (all i oi (sym (ap (λ (r : Row). r.place) (old_row i oi)) ∙ un) d))
-      (λ ni. same_right al base l x (row_at t i) g (get_or t.grades i d) (sym (new_at i ni)) (sym (grade_at i ni d)) right)
+      (λ oi. same_right al base l (statement_at s i) (statement_at t i) (get_or s.grades i d) (get_or t.grades i d) (row_at s i).kept (row_at t i).kept (sym (statement_old i oi)) (sym (old_grade i oi d)) (sym (kept_old i oi)) (all i oi (sym (place_old i oi) ∙ un) d))
+      (λ ni. same_right al base l x.statement (statement_at t i) g (get_or t.grades i d) x.kept (row_at t i).kept (sym (statement_new i ni)) (sym (grade_at i ni d)) (sym (new_column (λ (r : Row). r.kept) (λ r k. refl) i ni)) right)
       (last_or i s.len h)
 
 module _ {G : Type 0} (s : State G) (i : ℕ) (g : G) (kept : Kept) (rows_in : i < length s.rows) (grades_in : i < length s.grades) where
@@ -186,11 +194,7 @@ module _ {G : Type 0} (s : State G) (i : ℕ) (g : G) (kept : Kept) (rows_in : i
 
   -- what a new step leaves of a row
   left_as : {X : Type 0} (f : Row → X) → f (rekept (row_at s i) kept) ≡ f (row_at s i) → (k : ℕ) → f (row_at (improved s i g kept) k) ≡ f (row_at s k)
-  left_as f same k =
-      ⊎_elim
-      (λ e. ap (λ (j : ℕ). f (row_at (improved s i g kept) j)) e ∙ ap f row_here ∙ same ∙ ap (λ (j : ℕ). f (row_at s j)) (sym e))
-      (λ ne. ap f (row_other k ne))
-      (equal_or k i)
+  left_as = write_leaves s.rows i (rekept (row_at s i) kept) rows_in
 
   statements_left : (k : ℕ) → statement_at (improved s i g kept) k ≡ statement_at s k
   statements_left = left_as (λ (r : Row). r.statement) refl
@@ -208,7 +212,7 @@ module _ {G : Type 0} (s : State G) (i : ℕ) (g : G) (kept : Kept) (rows_in : i
     fresh = λ k low h. absurd (let z : ⊥ = omega arith in z);
     kept = λ k h p.
         let ne : k ≡ i → ⊥ = λ e. p (ap (λ (j : ℕ). (row_at s j).place) e ∙ un) in
-        (row_other k ne, better_other k ne);
+        (ap (λ (r : Row). r.kept) (row_other k ne), better_other k ne);
     rows_long = length-set s.rows i (rekept (row_at s i) kept);
     grades_long = length-set s.grades i g;
   }
@@ -252,9 +256,8 @@ module _ {G : Type 0} (s : State G) (i : ℕ) (g : G) (kept : Kept) (rows_in : i
       ⊎_elim
       (λ e.
       let here : row_at t j ≡ rekept (row_at s i) kept = ap (row_at t) e ∙ row_here in
-      let fit : KeptRight al base l (statement_at s i, g) kept = subst (λ (y : Statement). KeptRight al base l (y, g) kept) (sym is) right in
-      same_right al base l (rekept (row_at s i) kept) (row_at t j) g (get_or t.grades j d) (sym here) (sym (better_here j e d)) fit)
-      (λ ne. same_right al base l (row_at s j) (row_at t j) (get_or s.grades j d) (get_or t.grades j d) (sym (row_other j ne)) (sym (better_other j ne d)) (all j h (sym (places_left j) ∙ un) d))
+      same_right al base l x (statement_at t j) g (get_or t.grades j d) kept (row_at t j).kept (sym is ∙ sym (ap (λ (r : Row). r.statement) here)) (sym (better_here j e d)) (sym (ap (λ (r : Row). r.kept) here)) right)
+      (λ ne. same_right al base l (statement_at s j) (statement_at t j) (get_or s.grades j d) (get_or t.grades j d) (row_at s j).kept (row_at t j).kept (sym (statements_left j)) (sym (better_other j ne d)) (sym (ap (λ (r : Row). r.kept) (row_other j ne))) (all j h (sym (places_left j) ∙ un) d))
       (equal_or j i)
 
 -- an offer that changes nothing: its row is settled, or has a grade no worse
@@ -279,7 +282,7 @@ taken_pushed {G} al l s t true x g room is un absent =
     subst (λ (z : State G). Taken al s z x.statement g true) (sym is) (record {
       grown = pushed_grown s x g rows_in grades_in un;
       apart = pushed_apart s x g rows_in grades_in absent;
-      only = λ k low h. ap (λ (r : Row). r.statement) (new_at s x g rows_in grades_in k (omega arith));
+      only = λ k low h. statement_new s x g rows_in grades_in k (omega arith);
       best = λ _. pushed_best s x g rows_in grades_in al l absent;
       refused = λ e. absurd (both_ways true e refl);
     })
@@ -290,6 +293,16 @@ taken_pushed {G} al l s t false x g room is un absent =
       only = λ k low h. absurd (let z : ⊥ = omega arith in z);
       best = λ e. absurd (both_ways false refl e);
       refused = λ _. (refl, sym room, absent);
+    })
+
+pub taken_improved : {G : Type 0} (al : Algebra G) → Laws al → (s t : State G) (i : ℕ) (x : Statement) (g : G) (kept : Kept) → t ≡ improved s i g kept → i < s.len → s.len ≤ length s.rows → s.len ≤ length s.grades → statement_at s i ≡ x → Outdone al s i g true → Taken al s t x g true
+taken_improved {G} al l s t i x g kept is within rows_fit grades_fit same out =
+    subst (λ (z : State G). Taken al s z x g true) (sym is) (record {
+      grown = improved_grown s i g kept (omega arith) (omega arith) out.0;
+      apart = improved_apart s i g kept (omega arith) (omega arith);
+      only = λ k low h. absurd (let z : ⊥ = omega arith in z);
+      best = λ _. improved_best s i g kept (omega arith) (omega arith) al l x within same out.0 out.1;
+      refused = λ e. absurd (both_ways true e refl);
     })
 
 pub taken_left : {G : Type 0} (al : Algebra G) (s : State G) (i : ℕ) (x : Statement) (g : G) → i < s.len → statement_at s i ≡ x → ((row_at s i).place ≡ None → (d : G) → al.no_worse (get_or s.grades i d) g ≡ true) → Taken al s s x g true

@@ -1,5 +1,5 @@
 -- A row is settled.
-use Rattle.std.proofs.Common.{◌≡◌, ℕ, ◌+◌, ◌<◌, ◌≤◌, List, [], ◌∷◌, ◌++◌, length, get_or, take, Some, None, sym, refl, ap, ◌∙◌, subst, ⊎_elim, arith, length-append, length-set, get_or-set_other, get_or-set_same}
+use Rattle.std.proofs.Common.{◌≡◌, ℕ, ◌+◌, ◌<◌, ◌≤◌, List, [], ◌∷◌, ◌++◌, length, get_or, take, Some, None, sym, refl, ap, ◌∙◌, subst, ⊎_elim, arith, length-append, length-set}
 use lib.Seq.{take-append-le, take-append_seam}
 use Rattle.std.proofs.lemmas.List.{get_or_append_left, get_or_push}
 use Rattle.standpoint.specs.declared.statement.Statement.{Statement}
@@ -7,33 +7,18 @@ use Rattle.standpoint.specs.Algebra.{Algebra}
 use Rattle.standpoint.specs.Derivations.{Base}
 use Rattle.saturation.specs.declared.row.Row.{Row}
 use Rattle.saturation.specs.declared.row.Kept.{Kept}
-use Rattle.saturation.specs.Rows.{no_row}
-use Rattle.saturation.specs.Tables.{State, row_at, statement_at, turn_at, OpenAt, turned, placed, with_row, with_turn, settled_row}
+use Rattle.saturation.specs.Tables.{State, row_at, statement_at, turn_at, OpenAt, turned, placed, with_turn, settled_row}
 use Rattle.saturation.specs.Places.{KeptRight}
 use Rattle.saturation.specs.Offering.{Apart, BestOf, Grown, RowsRight, Explained}
 use Rattle.saturation.specs.Searching.{Premise, Lists}
 use Rattle.saturation.proofs.Offers.{last_or, equal_or, not_both, in_same}
+use Rattle.saturation.proofs.Writing.{write_here, write_other, write_leaves}
 use Rattle.saturation.proofs.Lists.{Fit, turn_kept}
 use Rattle.saturation.proofs.Stepping.{kept_up}
 
 same_explained : {G : Type 0} (al : Algebra G) (base : Base G) (l m : List (Statement × G)) (a b : Statement × G) (j k : Kept) → l ≡ m → a ≡ b → j ≡ k → KeptRight al base l a j → KeptRight al base m b k
 same_explained {G} al base l m a b j k e f h r =
     subst (λ (v : List (Statement × G)). KeptRight al base v b k) e (subst (λ (v : Statement × G). KeptRight al base l v k) f (subst (λ (v : Kept). KeptRight al base l a v) h r))
-
--- one row written
-module _ {G : Type 0} (s : State G) (k : ℕ) (r : Row) (within : k < length s.rows) where
-  write_here : row_at (with_row s k r) k ≡ r
-  write_here = get_or-set_same s.rows k r no_row within
-
-  write_other : (j : ℕ) → (j ≡ k → ⊥) → row_at (with_row s k r) j ≡ row_at s j
-  write_other j ne = get_or-set_other s.rows k j r no_row ne
-
-  write_leaves : {X : Type 0} (f : Row → X) → f r ≡ f (row_at s k) → (j : ℕ) → f (row_at (with_row s k r) j) ≡ f (row_at s j)
-  write_leaves f same j =
-      ⊎_elim
-      (λ e. ap (λ (v : ℕ). f (row_at (with_row s k r) v)) e ∙ ap f write_here ∙ same ∙ ap (λ (v : ℕ). f (row_at s v)) (sym e))
-      (λ ne. ap f (write_other j ne))
-      (equal_or j k)
 
 module _ {G : Type 0} (s : State G) (i : ℕ) (within : i < s.len) (rows_fit : s.len ≤ length s.rows) (room : s.settled < s.len) where
   first_in : s.settled < length s.rows
@@ -44,26 +29,26 @@ module _ {G : Type 0} (s : State G) (i : ℕ) (within : i < s.len) (rows_fit : s
 
   pub settled_statements : (j : ℕ) → statement_at (settled_row s i) j ≡ statement_at s j
   settled_statements j =
-      write_leaves (with_turn s s.settled i) i (placed (row_at (with_turn s s.settled i) i) s.settled) second_in (λ (r : Row). r.statement) refl j
-      ∙ write_leaves s s.settled (turned (row_at s s.settled) i) first_in (λ (r : Row). r.statement) refl j
+      write_leaves (with_turn s s.settled i).rows i (placed (row_at (with_turn s s.settled i) i) s.settled) second_in (λ (r : Row). r.statement) refl j
+      ∙ write_leaves s.rows s.settled (turned (row_at s s.settled) i) first_in (λ (r : Row). r.statement) refl j
 
   turn_left : (j : ℕ) → turn_at (settled_row s i) j ≡ turn_at (with_turn s s.settled i) j
-  turn_left j = write_leaves (with_turn s s.settled i) i (placed (row_at (with_turn s s.settled i) i) s.settled) second_in (λ (r : Row). r.turn) refl j
+  turn_left j = write_leaves (with_turn s s.settled i).rows i (placed (row_at (with_turn s s.settled i) i) s.settled) second_in (λ (r : Row). r.turn) refl j
 
   turn_old : (j : ℕ) → j < s.settled → turn_at (settled_row s i) j ≡ turn_at s j
-  turn_old j h = turn_left j ∙ ap (λ (r : Row). r.turn) (write_other s s.settled (turned (row_at s s.settled) i) first_in j (λ e. omega arith))
+  turn_old j h = turn_left j ∙ ap (λ (r : Row). r.turn) (write_other s.rows s.settled (turned (row_at s s.settled) i) first_in j (λ e. omega arith))
 
   turn_new : turn_at (settled_row s i) s.settled ≡ i
-  turn_new = turn_left s.settled ∙ ap (λ (r : Row). r.turn) (write_here s s.settled (turned (row_at s s.settled) i) first_in)
+  turn_new = turn_left s.settled ∙ ap (λ (r : Row). r.turn) (write_here s.rows s.settled (turned (row_at s s.settled) i) first_in)
 
   place_mid : (j : ℕ) → (row_at (with_turn s s.settled i) j).place ≡ (row_at s j).place
-  place_mid j = write_leaves s s.settled (turned (row_at s s.settled) i) first_in (λ (r : Row). r.place) refl j
+  place_mid j = write_leaves s.rows s.settled (turned (row_at s s.settled) i) first_in (λ (r : Row). r.place) refl j
 
   place_old : (j : ℕ) → (j ≡ i → ⊥) → (row_at (settled_row s i) j).place ≡ (row_at s j).place
-  place_old j ne = ap (λ (r : Row). r.place) (write_other (with_turn s s.settled i) i (placed (row_at (with_turn s s.settled i) i) s.settled) second_in j ne) ∙ place_mid j
+  place_old j ne = ap (λ (r : Row). r.place) (write_other (with_turn s s.settled i).rows i (placed (row_at (with_turn s s.settled i) i) s.settled) second_in j ne) ∙ place_mid j
 
   place_new : (row_at (settled_row s i) i).place ≡ Some s.settled
-  place_new = ap (λ (r : Row). r.place) (write_here (with_turn s s.settled i) i (placed (row_at (with_turn s s.settled i) i) s.settled) second_in)
+  place_new = ap (λ (r : Row). r.place) (write_here (with_turn s s.settled i).rows i (placed (row_at (with_turn s s.settled i) i) s.settled) second_in)
 
   pub settled_lists : (l : List (Statement × G)) (g : G) → OpenAt s i → ((d : G) → get_or s.grades i d ≡ g) → Lists s l → Lists (settled_row s i) (l ++ (statement_at s i, g) ∷ [])
   settled_lists l g un grade is =
@@ -123,8 +108,8 @@ module _ {G : Type 0} (s : State G) (i : ℕ) (within : i < s.len) (rows_fit : s
 
   settled_kept : (j : ℕ) → (row_at (settled_row s i) j).kept ≡ (row_at s j).kept
   settled_kept j =
-      write_leaves (with_turn s s.settled i) i (placed (row_at (with_turn s s.settled i) i) s.settled) second_in (λ (r : Row). r.kept) refl j
-      ∙ write_leaves s s.settled (turned (row_at s s.settled) i) first_in (λ (r : Row). r.kept) refl j
+      write_leaves (with_turn s s.settled i).rows i (placed (row_at (with_turn s s.settled i) i) s.settled) second_in (λ (r : Row). r.kept) refl j
+      ∙ write_leaves s.rows s.settled (turned (row_at s s.settled) i) first_in (λ (r : Row). r.kept) refl j
 
   pub settled_right : (al : Algebra G) (base : Base G) (l : List (Statement × G)) (p : Statement × G) → RowsRight al base l s → RowsRight al base (l ++ p ∷ []) (settled_row s i)
   settled_right al base l p all j h z d =
@@ -158,5 +143,5 @@ explained_grown al s t base l fit g is old k h d =
     let lg = is.long in
     let kh : k < s.settled = omega arith in
     let whole = g.kept (turn_at s k) (fit.1 k kh) (not_both _ k (is.marked k kh)) in
-    let kept : (row_at t (turn_at t k)).kept ≡ (row_at s (turn_at s k)).kept = ap (λ (j : ℕ). (row_at t j).kept) (turn_kept s t fit g k kh) ∙ ap (λ (r : Row). r.kept) whole.0 in
+    let kept : (row_at t (turn_at t k)).kept ≡ (row_at s (turn_at s k)).kept = ap (λ (j : ℕ). (row_at t j).kept) (turn_kept s t fit g k kh) ∙ whole.0 in
     subst (λ (v : Kept). KeptRight al base (take k l) (get_or l k d) v) (sym kept) (old k h d)

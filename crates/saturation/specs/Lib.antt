@@ -1,5 +1,6 @@
 pub mod Phases
 pub mod Rows
+pub mod Buckets
 pub mod Tables
 pub mod Places
 pub mod Offering

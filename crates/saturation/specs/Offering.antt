@@ -18,7 +18,7 @@ pub record BestOf {G : Type 0} (a : Algebra G) (s : State G) (offered : List (St
   pub from : (i : ℕ) → i < s.len → OpenAt s i → (d : G) → In offered (statement_at s i, slice_index_or s.grades i d)
   pub best : (i : ℕ) → i < s.len → OpenAt s i → (g : G) → In offered (statement_at s i, g) → (d : G) → NoWorse a (slice_index_or s.grades i d) g
 
--- nothing that stood in a taken row is lost, and a settled row is as it was
+-- nothing that stood in a taken row is lost, and a settled row keeps its step and its grade
 pub record Grown {G : Type 0} (s t : State G) : Type 0 where
   pub more : s.len ≤ t.len
   pub settled : t.settled ≡ s.settled
@@ -26,7 +26,7 @@ pub record Grown {G : Type 0} (s t : State G) : Type 0 where
   pub places : (k : ℕ) → k < s.len → (row_at t k).place ≡ (row_at s k).place
   pub turns : (k : ℕ) → k < s.len → turn_at t k ≡ turn_at s k
   pub fresh : (k : ℕ) → s.len ≤ k → k < t.len → OpenAt t k
-  pub kept : (k : ℕ) → k < s.len → (OpenAt s k → ⊥) → (row_at t k ≡ row_at s k) × ((d : G) → slice_index_or t.grades k d ≡ slice_index_or s.grades k d)
+  pub kept : (k : ℕ) → k < s.len → (OpenAt s k → ⊥) → ((row_at t k).kept ≡ (row_at s k).kept) × ((d : G) → slice_index_or t.grades k d ≡ slice_index_or s.grades k d)
   pub rows_long : length t.rows ≡ length s.rows
   pub grades_long : length t.grades ≡ length s.grades
 

@@ -8,12 +8,12 @@ use Rattle.saturation.specs.declared.row.Row.{Row}
 abbrev pub kept : ℕ → ℕ → ℕ → ℕ → Kept
 kept rule i j k = record { rule = rule; first = i; second = j; third = k }
 
-abbrev pub row : Statement → Kept → Option ℕ → ℕ → Bool → Row
-row x step place turn mark = record { statement = x; kept = step; place = place; turn = turn; mark = mark }
+abbrev pub row : Statement → Kept → Option ℕ → ℕ → Bool → ℕ → Option ℕ → Row
+row x step place turn mark head link = record { statement = x; kept = step; place = place; turn = turn; mark = mark; head = head; link = link }
 
 -- what stands past the end of the rows
 abbrev pub no_row : Row
-no_row = row (statement 0 0 0 0 0 0) (kept 0 0 0 0) None 0 false
+no_row = row (statement 0 0 0 0 0 0) (kept 0 0 0 0) None 0 false 0 None
 
 -- each turn so far settled a taken row
 abbrev pub TurnsWithin : List Row → ℕ → ℕ → Type 0

@@ -1,10 +1,11 @@
 -- A table as a plain state, and what one write makes of it.
-use Rattle.std.specs.Prelude.{◌≡◌, ℕ, ◌+◌, ◌<◌, min, Bool, List, length, get_or, Some, None, Option, ◌≢◌, nat_lt, slice_index_or, slice_set}
+use Rattle.std.specs.Prelude.{◌≡◌, ℕ, ◌+◌, ◌<◌, min, Bool, false, List, length, get_or, Some, None, Option, ◌≢◌, nat_lt, slice_index_or, slice_set}
 use Rattle.standpoint.specs.declared.statement.Statement.{Statement}
 use Rattle.saturation.specs.declared.row.Kept.{Kept}
 use Rattle.saturation.specs.declared.row.Row.{Row}
 use Rattle.saturation.specs.declared.table.Table.{Table}
 use Rattle.saturation.specs.Rows.{row, no_row}
+use Rattle.saturation.specs.Buckets.{bucket_of, last_in, entered}
 
 -- the rows, the grades beside them, and how many are taken and settled
 pub record State (G : Type 0) : Type 0 where
@@ -60,25 +61,29 @@ RowOf rows len x (Some i) = (i < len) × ((get_or rows i no_row).statement ≡ x
 abbrev pub Found : {G : Type 0} → State G → Statement → Option ℕ → Type 0
 Found s x r = RowOf s.rows s.len x r
 
--- one row and its grade more
-abbrev pub pushed : {G : Type 0} → State G → Row → G → State G
-pushed s x g = record { rows = slice_set s.rows s.len x; grades = slice_set s.grades s.len g; len = s.len + 1; settled = s.settled }
-
 abbrev pub with_row : {G : Type 0} → State G → ℕ → Row → State G
 with_row s k r = record { rows = slice_set s.rows k r; grades = s.grades; len = s.len; settled = s.settled }
 
+-- the next row, linked to the last of its bucket
+abbrev pub taken_row : {G : Type 0} → State G → Statement → Kept → Row
+taken_row s x step = row x step None 0 false (row_at s s.len).head (last_in s.rows (bucket_of (length s.rows) x) s.len)
+
+-- one row and its grade more
+abbrev pub pushed : {G : Type 0} → State G → Row → G → State G
+pushed s x g = record { rows = entered s.rows s.len x (bucket_of (length s.rows) x.statement); grades = slice_set s.grades s.len g; len = s.len + 1; settled = s.settled }
+
 abbrev pub rekept : Row → Kept → Row
-rekept r k = row r.statement k r.place r.turn r.mark
+rekept r k = record r { kept = k }
 
 -- another step and grade for row i
 abbrev pub improved : {G : Type 0} → State G → ℕ → G → Kept → State G
 improved s i g k = record { rows = slice_set s.rows i (rekept (row_at s i) k); grades = slice_set s.grades i g; len = s.len; settled = s.settled }
 
 abbrev pub turned : Row → ℕ → Row
-turned r i = row r.statement r.kept r.place i r.mark
+turned r i = record r { turn = i }
 
 abbrev pub placed : Row → ℕ → Row
-placed r p = row r.statement r.kept (Some p) r.turn r.mark
+placed r p = record r { place = Some p }
 
 abbrev pub with_turn : {G : Type 0} → State G → ℕ → ℕ → State G
 with_turn s k i = with_row s k (turned (row_at s k) i)

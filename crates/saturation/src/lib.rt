@@ -9,6 +9,7 @@ pub use table::Table;
 pub use turn::Turn;
 
 mod attempt;
+mod buckets;
 mod choose;
 mod memory;
 mod offer;

@@ -3,7 +3,7 @@ ghost use Rattle.saturation.specs.Tables.{view, Same};
 ghost use Rattle.saturation.specs.Offering.{Taken, Keeps, Outdone};
 ghost use Rattle.std.specs.Prelude.{◌<◌, is_ok};
 
-use crate::row::{Kept, Row};
+use crate::row::Kept;
 use crate::rows::NoRow;
 use crate::table::Table;
 use standpoint::{Kind, Statement};
@@ -22,16 +22,7 @@ impl<'a, G: Copy> Table<'a, G> {
         ensures keeps { Keeps (K.Kind.algebra kind.now) (view self.old) (view self.new) statement grade kept }
     {
         let Some(i) = self.find(statement) else {
-            return self.push(
-                Row {
-                    statement,
-                    kept,
-                    place: None,
-                    turn: 0,
-                    mark: false,
-                },
-                grade,
-            );
+            return self.push(statement, kept, grade);
         };
         if self.outdone(kind, i, grade) {
             self.improve(i, grade, kept);

@@ -39,6 +39,10 @@ pub struct Row {
     pub turn: usize,
     // A column of its own: stands only while steps are written out.
     pub mark: bool,
+    // A column of its own: in the b-th row, from 0, the last taken row of bucket b; where there is none, whatever the memory held.
+    pub head: usize,
+    // The last row before this one in the same bucket.
+    pub link: Option<usize>,
 }
 
 impl Row {
@@ -49,5 +53,7 @@ impl Row {
         place: None,
         turn: 0,
         mark: false,
+        head: 0,
+        link: None,
     };
 }

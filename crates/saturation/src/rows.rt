@@ -1,8 +1,9 @@
 // Single rows: looking for one, taking one, changing one.
 ghost use Rattle.std.specs.Prelude.{◌≡◌, ℕ, ◌+◌, ◌<◌, ◌≤◌, false, length, if◌then◌else◌, is_ok, MatchOption, slice_index_or};
-ghost use Rattle.saturation.specs.Tables.{view, Same, Found, has_room, pushed, improved, statement_at, turn_at, row_at};
+ghost use Rattle.saturation.specs.Tables.{view, Same, Found, has_room, pushed, taken_row, improved, statement_at, turn_at, row_at};
 ghost use Rattle.saturation.specs.Searching.{Premise};
 
+use crate::buckets::{bucket_of, enter};
 use crate::row::{Kept, Row};
 use crate::table::Table;
 use standpoint::Statement;
@@ -19,24 +20,42 @@ impl<'a, G: Copy> Table<'a, G> {
     pub fn find(&self, statement: Statement) -> Option<usize>
         ensures { Found (view self.now) statement result }
     {
-        self.rows[..self.len]
-            .iter()
-            .position(|row| row.statement == statement)
+        if self.len == 0 {
+            return None;
+        }
+        let mut at = self.last_in(bucket_of(statement, self.rows.len()));
+        while let Some(k) = at {
+            let row = self.rows[k];
+            if row.statement == statement {
+                return Some(k);
+            }
+            at = row.link;
+        }
+        None
     }
 
-    // Takes one more row, if there is one.
-    pub(crate) fn push(&mut self, row: Row, grade: G) -> Result<(), NoRow>
-        requires { row.mark ≡ false }
+    // Takes one more row, if there is one, for a statement that no row holds yet.
+    pub(crate) fn push(&mut self, statement: Statement, kept: Kept, grade: G) -> Result<(), NoRow>
         ensures same { Same self.old self.new }
         ensures room { is_ok result ≡ has_room (view self.old) }
-        ensures state { view self.new ≡ (if is_ok result then pushed (view self.old) row grade else view self.old) }
+        ensures state { view self.new ≡ (if is_ok result then pushed (view self.old) (taken_row (view self.old) statement kept) grade else view self.old) }
     {
         let at = self.len;
         if at >= self.rows.len() || at >= self.grades.len() || at >= MOST_ROWS {
             return Err(NoRow);
         }
-        self.rows[at] = row;
+        let bucket = bucket_of(statement, self.rows.len());
+        let row = Row {
+            statement,
+            kept,
+            place: None,
+            turn: 0,
+            mark: false,
+            head: self.rows[at].head,
+            link: self.last_in(bucket),
+        };
         self.grades[at] = grade;
+        enter(self.rows, at, row, bucket);
         self.len = at + 1;
         Ok(())
     }

@@ -1,23 +1,15 @@
-use Rattle.std.proofs.Common.{refl, arith}
-use borrow.Author.Tests.{both_ways}
+use Rattle.std.proofs.Common.{refl}
+use Rattle.saturation.specs.Phases.{is_begun}
 use Rattle.saturation.specs.Tables.{view}
-use Rattle.explanation.proofs.Clearing.{settled_rows, cleared_long, cleared_turns, cleared_but, cleared_clean}
+use Rattle.saturation.proofs.RowFacts.{facts_of}
+use Rattle.explanation.proofs.Clearing.{settled_rows, cleared_facts, cleared_but, cleared_clean}
 use Rattle.explanation.proofs.marks.clear.Goals as goal
 
-pub invariant_of-reasoner-clause-rows_fit : goal.invariant_of-reasoner-clause-rows_fit
-invariant_of-reasoner-clause-rows_fit g c =
+pub invariant_of-reasoner : goal.invariant_of-reasoner
+invariant_of-reasoner g c =
     let t = c.args.reasoner.now in
-    let long = cleared_long t.rows.now t.settled (settled_rows t) c.unmark.new.rows c.unmark.ensures in
-    let fits = t.rows_fit in
-    omega arith
-
-pub invariant_of-reasoner-clause-turns : goal.invariant_of-reasoner-clause-turns
-invariant_of-reasoner-clause-turns g c =
-    let t = c.args.reasoner.now in
-    cleared_turns t.rows.now t.settled (settled_rows t) c.unmark.new.rows c.unmark.ensures t.len t.turns
-
-pub invariant_of-reasoner-clause-marks : goal.invariant_of-reasoner-clause-marks
-invariant_of-reasoner-clause-marks g c on = absurd (both_ways _ c.requires on)
+    let f = cleared_facts t.rows.now t.settled (settled_rows t) c.unmark.new.rows c.unmark.ensures t.len (is_begun t.phase) c.requires (facts_of t) in
+    record { rows_fit = f.fits; grades_fit = t.grades_fit; few = t.few; settled_fit = t.settled_fit; turns = f.turns; marks = f.marks; bucket_heads = f.heads; bucket_links = f.links }
 
 pub returns-clause-state : goal.returns-clause-state
 returns-clause-state g c =

@@ -1,13 +1,20 @@
-use Rattle.std.proofs.Common.{◌≡◌, ◌≢◌, rules, take, tests}
-use Rattle.std.proofs.lemmas.Iterator.{IsFirst-from_position, YieldsList-from_slice}
-use Rattle.saturation.proofs.Finding.{first_row}
+use Rattle.std.proofs.Common.{◌≢◌, ◌∙◌, ap, rules, tests}
+use Rattle.saturation.specs.Buckets.{last_in}
+use Rattle.saturation.proofs.Indexing.{walk_falls, left_all, left_next, statement_in}
 use Rattle.saturation.proofs.table.Table.find.Goals as goal
 
-pub returns : goal.returns
-returns g c =
-    let x = c.args.statement in
+pub loop-at-init : goal.loop-at-init
+loop-at-init g c =
     let t = c.args.self.now in
-    let front = take t.len t.rows.now in
-    first_row t.rows.now t.len x c.position.result t.rows_fit
-    (IsFirst-from_position _ _ _ (λ w. w.statement ≡ x) (λ w. w.statement ≢ x) c.position.ensures.ran (YieldsList-from_slice front cc)
-    (λ w q k. search (rules, tests)) (λ w q k. search (rules, tests)))
+    left_all t.rows.now t.len c.args.statement c.last_in-at.result (c.last_in-at.ensures ∙ ap (λ b. last_in t.rows.now b t.len) c.bucket_of.ensures.value)
+
+pub loop-at-smaller : goal.loop-at-smaller
+loop-at-smaller g c =
+    let t = c.args.self.now in
+    walk_falls t.rows.now t.len c.args.statement t.bucket_links c.loop-at.at c.in-Some.k c.in-Some.is c.loop-at.invariant
+
+pub loop-at-preserved : goal.loop-at-preserved
+loop-at-preserved g c =
+    let t = c.args.self.now in
+    let other : statement_in t.rows.now c.in-Some.k ≢ c.args.statement = search (rules, tests) in
+    left_next t.rows.now t.len c.args.statement t.bucket_links c.loop-at.at c.in-Some.k c.in-Some.is c.loop-at.invariant other

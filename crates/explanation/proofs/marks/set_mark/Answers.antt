@@ -1,0 +1,16 @@
+use Rattle.std.proofs.Common.{true, refl, arith}
+use borrow.Author.Tests.{both_ways}
+use Rattle.saturation.specs.Phases.{is_begun}
+use Rattle.saturation.specs.Tables.{view, row_at}
+use Rattle.saturation.proofs.RowFacts.{facts_of, set_facts}
+use Rattle.explanation.specs.Marks.{remarked}
+use Rattle.explanation.proofs.Clearing.{settled_rows}
+use Rattle.explanation.proofs.marks.set_mark.Goals as goal
+
+pub invariant_of-reasoner : goal.invariant_of-reasoner
+invariant_of-reasoner g c =
+    let t = c.args.reasoner.now in
+    let fits = settled_rows t in
+    let within = c.requires.0 in
+    let f = set_facts t.rows.now t.settled t.len (is_begun t.phase) (facts_of t) c.args.k (remarked (row_at (view t) c.args.k) true) (omega arith) refl refl refl refl (λ on. absurd (both_ways _ c.requires.1 on)) in
+    record { rows_fit = f.fits; grades_fit = t.grades_fit; few = t.few; settled_fit = t.settled_fit; turns = f.turns; marks = f.marks; bucket_heads = f.heads; bucket_links = f.links }

@@ -1,0 +1,57 @@
+// The index inside the rows: there are as many buckets as rows, and a statement is looked for in its own.
+ghost use Rattle.std.specs.Prelude.{◌≡◌, ◌<◌, length};
+ghost use Rattle.saturation.specs.Buckets.{mixed, bucket_of, last_in, entered};
+
+use crate::row::Row;
+use crate::table::Table;
+use standpoint::Statement;
+
+// 2^64 by the golden ratio: what differs in one small number is far apart in the high bits.
+const SPREAD: u64 = 0x9E37_79B9_7F4A_7C15;
+
+// One number more is mixed in.
+fn mixed(hash: u64, number: u16) -> u64
+    ensures { result ≡ mixed hash number }
+{
+    hash.wrapping_add(u64::from(number)).wrapping_mul(SPREAD)
+}
+
+// The bucket of a statement among so many, by the high bits, in which every number has a part.
+pub(crate) fn bucket_of(statement: Statement, buckets: usize) -> usize
+    requires { 0 < buckets }
+    ensures value { result ≡ bucket_of buckets statement }
+    ensures within { result < buckets }
+{
+    let hash = mixed(0, u16::from(statement.shape));
+    let hash = mixed(hash, statement.first);
+    let hash = mixed(hash, statement.second);
+    let hash = mixed(hash, statement.third);
+    let hash = mixed(hash, statement.fourth);
+    let hash = mixed(hash, statement.fifth);
+    (hash >> 32) as usize % buckets
+}
+
+// Writes the next row, from then on the last of its bucket.
+pub(crate) fn enter(rows: &mut [Row], at: usize, row: Row, bucket: usize)
+    requires { (at < length rows.old) × (bucket < length rows.old) }
+    ensures { rows.new ≡ entered rows.old at row bucket }
+{
+    rows[at] = row;
+    rows[bucket].head = at;
+}
+
+impl<'a, G: Copy> Table<'a, G> {
+    // The last taken row of a bucket, or none. A head counts only where it names a taken row of its own bucket, so that lent memory
+    // need not be cleared first.
+    pub(crate) fn last_in(&self, bucket: usize) -> Option<usize>
+        requires { bucket < length self.now.rows.now }
+        ensures { result ≡ last_in self.now.rows.now bucket self.now.len }
+    {
+        let head = self.rows[bucket].head;
+        if head < self.len && bucket_of(self.rows[head].statement, self.rows.len()) == bucket {
+            Some(head)
+        } else {
+            None
+        }
+    }
+}
