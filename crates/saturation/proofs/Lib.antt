@@ -1,4 +1,5 @@
 pub mod Writing
+pub mod Chaining
 pub mod Indexing
 pub mod RowFacts
 pub mod Offers

@@ -6,34 +6,33 @@ use Rattle.saturation.specs.declared.row.Row.{Row}
 use Rattle.saturation.specs.declared.table.Table.{Table}
 use Rattle.saturation.specs.Phases.{is_begun}
 use Rattle.saturation.specs.Rows.{no_row, TurnsWithin, Unmarked}
-use Rattle.saturation.specs.Buckets.{bucket_of, last_in, HeadsLast, LinksBack, entered}
+use Rattle.saturation.specs.Chains.{last_in}
+use Rattle.saturation.specs.Buckets.{bucket_of, bucket_at, Indexed, entered}
 use Rattle.saturation.specs.Tables.{turned}
-use Rattle.saturation.proofs.Writing.{write_here, write_other, turns_written, marks_written}
-use Rattle.saturation.proofs.Indexing.{set_heads, set_links, entered_long, entered_old, entered_new, entered_heads, entered_links}
+use Rattle.saturation.proofs.Writing.{write_here, write_other, write_leaves, turns_written, marks_written}
+use Rattle.saturation.proofs.Indexing.{index_kept, entered_long, entered_old, entered_new, entered_index}
 
 pub record RowFacts (rows : List Row) (settled len : ℕ) (begun : Bool) : Type 0 where
   pub fits : len ≤ length rows
   pub turns : TurnsWithin rows settled len
   pub marks : Unmarked rows len begun
-  pub heads : HeadsLast rows len
-  pub links : LinksBack rows len
+  pub index : Indexed rows len
 
 pub facts_of : {G : Type 0} (t : Table G) → RowFacts t.rows.now t.settled t.len (is_begun t.phase)
-facts_of t = record { fits = t.rows_fit; turns = t.turns; marks = t.marks; heads = t.bucket_heads; links = t.bucket_links }
+facts_of t = record { fits = t.rows_fit; turns = t.turns; marks = t.marks; index = t.index }
 
 module _ (rows : List Row) (settled len : ℕ) (begun : Bool) (f : RowFacts rows settled len begun) where
   -- one row written that keeps these columns; marks are free where no run is begun
   pub set_facts : (i : ℕ) (r : Row) → i < length rows → r.statement ≡ (get_or rows i no_row).statement → r.turn ≡ (get_or rows i no_row).turn →
-      r.head ≡ (get_or rows i no_row).head → r.link ≡ (get_or rows i no_row).link → (begun ≡ true → r.mark ≡ (get_or rows i no_row).mark) → RowFacts (set rows i r) settled len begun
-  set_facts i r within statement turn head link mark =
+      r.index ≡ (get_or rows i no_row).index → (begun ≡ true → r.mark ≡ (get_or rows i no_row).mark) → RowFacts (set rows i r) settled len begun
+  set_facts i r within statement turn chain mark =
       let fits = f.fits in
       let long = length-set rows i r in
       record {
         fits = omega arith;
         turns = turns_written rows i r within settled len turn f.turns;
         marks = λ on. marks_written rows i r within len begun (mark on) f.marks on;
-        heads = set_heads rows i r within len statement head f.heads;
-        links = set_links rows i r within len statement link f.links;
+        index = index_kept rows (set rows i r) long len (write_leaves rows i r within (λ (w : Row). w.statement) statement) (write_leaves rows i r within (λ (w : Row). w.index) chain) f.index;
       }
 
   -- row i is what is settled next
@@ -50,13 +49,12 @@ module _ (rows : List Row) (settled len : ℕ) (begun : Bool) (f : RowFacts rows
             (λ n. let ne = n.1 in subst (λ (t : ℕ). t < len) (sym (ap (λ (w : Row). w.turn) (write_other rows settled r within k ne))) (f.turns k (omega arith)))
             (eqb_tells k settled);
         marks = marks_written rows settled r within len begun refl f.marks;
-        heads = set_heads rows settled r within len refl refl f.heads;
-        links = set_links rows settled r within len refl refl f.links;
+        index = index_kept rows (set rows settled r) long len (write_leaves rows settled r within (λ (w : Row). w.statement) refl) (write_leaves rows settled r within (λ (w : Row). w.index) refl) f.index;
       }
 
   -- one row more
   pub entered_facts : (x : Row) (b : ℕ) → b ≡ bucket_of (length rows) x.statement → len < length rows → settled ≤ len →
-      x.mark ≡ false → x.head ≡ (get_or rows len no_row).head → x.link ≡ last_in rows b len → RowFacts (entered rows len x b) settled (len + 1) begun
+      x.mark ≡ false → x.index.head ≡ (get_or rows len no_row).index.head → x.index.link ≡ last_in (bucket_at rows) b len → RowFacts (entered rows len x b) settled (len + 1) begun
   entered_facts x b is within low mark head link =
       let long = entered_long rows len x b is within in
       record {
@@ -70,6 +68,5 @@ module _ (rows : List Row) (settled len : ℕ) (begun : Bool) (f : RowFacts rows
             (λ t. ap (λ (j : ℕ). (get_or (entered rows len x b) j no_row).mark) t.1 ∙ entered_new rows len x b is within (λ (r : Row). r.mark) (λ r k. refl) ∙ mark)
             (λ n. let ne = n.1 in entered_old rows len x b is within (λ (r : Row). r.mark) (λ r k. refl) k ne ∙ f.marks on k (omega arith))
             (eqb_tells k len);
-        heads = entered_heads rows len x b is within head f.heads;
-        links = entered_links rows len x b is within link f.links;
+        index = entered_index rows len x b is within head link f.index;
       }

@@ -1,5 +1,6 @@
 pub mod Phases
 pub mod Rows
+pub mod Chains
 pub mod Buckets
 pub mod Tables
 pub mod Places

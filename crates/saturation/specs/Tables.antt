@@ -4,8 +4,9 @@ use Rattle.standpoint.specs.declared.statement.Statement.{Statement}
 use Rattle.saturation.specs.declared.row.Kept.{Kept}
 use Rattle.saturation.specs.declared.row.Row.{Row}
 use Rattle.saturation.specs.declared.table.Table.{Table}
-use Rattle.saturation.specs.Rows.{row, no_row}
-use Rattle.saturation.specs.Buckets.{bucket_of, last_in, entered}
+use Rattle.saturation.specs.Rows.{chain, row, no_row}
+use Rattle.saturation.specs.Chains.{last_in}
+use Rattle.saturation.specs.Buckets.{bucket_of, bucket_at, entered}
 
 -- the rows, the grades beside them, and how many are taken and settled
 pub record State (G : Type 0) : Type 0 where
@@ -66,7 +67,7 @@ with_row s k r = record { rows = slice_set s.rows k r; grades = s.grades; len = 
 
 -- the next row, linked to the last of its bucket
 abbrev pub taken_row : {G : Type 0} → State G → Statement → Kept → Row
-taken_row s x step = row x step None 0 false (row_at s s.len).head (last_in s.rows (bucket_of (length s.rows) x) s.len)
+taken_row s x step = row x step None 0 false (chain (row_at s s.len).index.head (last_in (bucket_at s.rows) (bucket_of (length s.rows) x) s.len))
 
 -- one row and its grade more
 abbrev pub pushed : {G : Type 0} → State G → Row → G → State G

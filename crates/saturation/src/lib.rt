@@ -3,7 +3,7 @@
 
 pub use phase::Phase;
 pub use places::{Places, Position};
-pub use row::{Kept, Row};
+pub use row::{Chain, Kept, Row};
 pub use rows::NoRow;
 pub use table::Table;
 pub use turn::Turn;

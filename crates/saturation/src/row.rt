@@ -28,6 +28,22 @@ impl Kept {
     };
 }
 
+// Chains of places, two columns of the rows: each bucket names its last place, and each place the one before it in its bucket.
+#[derive(Clone, Copy)]
+pub struct Chain {
+    // In the b-th row, from 0, the last place in bucket b; where there is none, whatever the memory held.
+    pub head: usize,
+    // In the k-th row, from 0, the last place before the k-th in its bucket.
+    pub link: Option<usize>,
+}
+
+impl Chain {
+    pub const EMPTY: Chain = Chain {
+        head: 0,
+        link: None,
+    };
+}
+
 // A statement with the step that gave its grade.
 #[derive(Clone, Copy)]
 pub struct Row {
@@ -39,10 +55,8 @@ pub struct Row {
     pub turn: usize,
     // A column of its own: stands only while steps are written out.
     pub mark: bool,
-    // A column of its own: in the b-th row, from 0, the last taken row of bucket b; where there is none, whatever the memory held.
-    pub head: usize,
-    // The last row before this one in the same bucket.
-    pub link: Option<usize>,
+    // The taken rows, by statement.
+    pub index: Chain,
 }
 
 impl Row {
@@ -53,7 +67,6 @@ impl Row {
         place: None,
         turn: 0,
         mark: false,
-        head: 0,
-        link: None,
+        index: Chain::EMPTY,
     };
 }

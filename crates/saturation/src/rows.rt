@@ -4,7 +4,7 @@ ghost use Rattle.saturation.specs.Tables.{view, Same, Found, has_room, pushed, t
 ghost use Rattle.saturation.specs.Searching.{Premise};
 
 use crate::buckets::{bucket_of, enter};
-use crate::row::{Kept, Row};
+use crate::row::{Chain, Kept, Row};
 use crate::table::Table;
 use standpoint::Statement;
 
@@ -29,7 +29,7 @@ impl<'a, G: Copy> Table<'a, G> {
             if row.statement == statement {
                 return Some(k);
             }
-            at = row.link;
+            at = row.index.link;
         }
         None
     }
@@ -51,8 +51,10 @@ impl<'a, G: Copy> Table<'a, G> {
             place: None,
             turn: 0,
             mark: false,
-            head: self.rows[at].head,
-            link: self.last_in(bucket),
+            index: Chain {
+                head: self.rows[at].index.head,
+                link: self.last_in(bucket),
+            },
         };
         self.grades[at] = grade;
         enter(self.rows, at, row, bucket);

@@ -2,7 +2,7 @@
 ghost use Rattle.std.specs.Prelude.{◌≤◌, length};
 ghost use Rattle.saturation.specs.Phases.{is_begun};
 ghost use Rattle.saturation.specs.Rows.{TurnsWithin, Unmarked};
-ghost use Rattle.saturation.specs.Buckets.{HeadsLast, LinksBack};
+ghost use Rattle.saturation.specs.Buckets.{Indexed};
 
 use crate::phase::Phase;
 use crate::row::Row;
@@ -22,6 +22,5 @@ pub struct Table<'a, G> {
     ghost settled_fit: { settled ≤ len },
     ghost turns: { TurnsWithin rows.now settled len },
     ghost marks: { Unmarked rows.now len (is_begun phase) },
-    ghost bucket_heads: { HeadsLast rows.now len },
-    ghost bucket_links: { LinksBack rows.now len },
+    ghost index: { Indexed rows.now len },
 }
