@@ -52,6 +52,10 @@ module _ (rows : List Row) (n : ℕ) (x : Row) (b : ℕ) (is : b ≡ bucket_of (
   pub entered_new : {X : Type 0} (f : Row → X) → ((r : Row) (k : ℕ) → f (headed r k) ≡ f r) → f (get_or new n no_row) ≡ f x
   entered_new f apart = write_leaves mid b (headed (get_or mid b no_row) n) bucket_in f (apart (get_or mid b no_row) n) n ∙ ap f (write_here rows n x within)
 
+  -- a column in which the row is as what stood there
+  pub entered_same : {X : Type 0} (f : Row → X) → ((r : Row) (k : ℕ) → f (headed r k) ≡ f r) → f x ≡ f (get_or rows n no_row) → (k : ℕ) → f (get_or new k no_row) ≡ f (get_or rows k no_row)
+  entered_same f apart same k = write_leaves mid b (headed (get_or mid b no_row) n) bucket_in f (apart (get_or mid b no_row) n) k ∙ write_leaves rows n x within f same k
+
   bucket_new : bucket_at new n ≡ b
   bucket_new = ap (λ (m : ℕ). bucket_of m (statement_in new n)) entered_long ∙ ap (bucket_of (length rows)) (entered_new (λ (r : Row). r.statement) (λ r k. refl)) ∙ sym is
 

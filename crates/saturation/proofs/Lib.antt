@@ -1,6 +1,7 @@
 pub mod Writing
 pub mod Chaining
 pub mod Indexing
+pub mod Siding
 pub mod RowFacts
 pub mod Offers
 pub mod Lists

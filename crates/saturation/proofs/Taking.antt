@@ -1,5 +1,5 @@
 -- One turn, put together.
-use Rattle.std.proofs.Common.{◌≡◌, ℕ, ◌<◌, ◌≤◌, Bool, List, [], ◌∷◌, ◌++◌, length, Some, sym, ap, ◌∙◌, subst, arith, length-set}
+use Rattle.std.proofs.Common.{◌≡◌, ℕ, ◌<◌, ◌≤◌, Bool, List, [], ◌∷◌, ◌++◌, length, Some, sym, ap, ◌∙◌, subst, arith}
 use Rattle.standpoint.specs.declared.statement.Statement.{Statement}
 use Rattle.standpoint.specs.Algebra.{Algebra, Laws}
 use Rattle.saturation.specs.Tables.{State, statement_at, OpenAt, settled_row}
@@ -11,7 +11,7 @@ use Rattle.saturation.specs.Turns.{TookTurn}
 use Rattle.saturation.proofs.Lists.{Fit, lists_grown}
 use Rattle.saturation.proofs.Stepping.{value_at}
 use Rattle.saturation.proofs.Opening.{next_chosen, open_room}
-use Rattle.saturation.proofs.Settling.{settled_lists, settled_best, settled_apart, settled_statements, settled_right, settled_explained, explained_grown}
+use Rattle.saturation.proofs.Settling.{settled_rows_long, settled_lists, settled_best, settled_apart, settled_statements, settled_right, settled_explained, explained_grown}
 
 module _ {G : Type 0} (al : Algebra G) (laws : Laws al) (v : ℕ) (s m t : State G) (i : ℕ) (b : Bool) (fit : Fit s) (fit_m : Fit m)
     (rows_fit : s.len ≤ length s.rows) (grades_fit : s.len ≤ length s.grades) (room : s.settled < s.len)
@@ -21,7 +21,7 @@ module _ {G : Type 0} (al : Algebra G) (laws : Laws al) (v : ℕ) (s m t : State
   within = chosen.0
 
   rows_kept : length t.rows ≡ length s.rows
-  rows_kept = went.grown.rows_long ∙ ap (λ (z : State G). length z.rows) is ∙ simp length-set
+  rows_kept = went.grown.rows_long ∙ ap (λ (z : State G). length z.rows) is ∙ settled_rows_long s i within rows_fit room
 
   grades_kept : length t.grades ≡ length s.grades
   grades_kept = went.grown.grades_long ∙ ap (λ (z : State G). length z.grades) is

@@ -2,6 +2,7 @@ pub mod Phases
 pub mod Rows
 pub mod Chains
 pub mod Buckets
+pub mod Sides
 pub mod Tables
 pub mod Places
 pub mod Offering

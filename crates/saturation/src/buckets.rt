@@ -11,7 +11,7 @@ use standpoint::Statement;
 const SPREAD: u64 = 0x9E37_79B9_7F4A_7C15;
 
 // One number more is mixed in.
-fn mixed(hash: u64, number: u16) -> u64
+pub(crate) fn mixed(hash: u64, number: u16) -> u64
     ensures { result ≡ mixed hash number }
 {
     hash.wrapping_add(u64::from(number)).wrapping_mul(SPREAD)

@@ -19,5 +19,6 @@ mod row;
 mod rows;
 mod run;
 mod search;
+mod side;
 mod table;
 mod turn;

@@ -57,6 +57,10 @@ pub struct Row {
     pub mark: bool,
     // The taken rows, by statement.
     pub index: Chain,
+    // The settled statements, by settling place, each by its node on that side.
+    pub source: Chain,
+    pub target: Chain,
+    pub inner: Chain,
 }
 
 impl Row {
@@ -68,5 +72,8 @@ impl Row {
         turn: 0,
         mark: false,
         index: Chain::EMPTY,
+        source: Chain::EMPTY,
+        target: Chain::EMPTY,
+        inner: Chain::EMPTY,
     };
 }

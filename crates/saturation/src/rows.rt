@@ -45,16 +45,17 @@ impl<'a, G: Copy> Table<'a, G> {
             return Err(NoRow);
         }
         let bucket = bucket_of(statement, self.rows.len());
+        let free = self.rows[at];
         let row = Row {
             statement,
             kept,
             place: None,
-            turn: 0,
             mark: false,
             index: Chain {
-                head: self.rows[at].index.head,
+                head: free.index.head,
                 link: self.last_in(bucket),
             },
+            ..free
         };
         self.grades[at] = grade;
         enter(self.rows, at, row, bucket);

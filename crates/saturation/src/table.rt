@@ -3,6 +3,7 @@ ghost use Rattle.std.specs.Prelude.{◌≤◌, length};
 ghost use Rattle.saturation.specs.Phases.{is_begun};
 ghost use Rattle.saturation.specs.Rows.{TurnsWithin, Unmarked};
 ghost use Rattle.saturation.specs.Buckets.{Indexed};
+ghost use Rattle.saturation.specs.Sides.{Sided};
 
 use crate::phase::Phase;
 use crate::row::Row;
@@ -23,4 +24,5 @@ pub struct Table<'a, G> {
     ghost turns: { TurnsWithin rows.now settled len },
     ghost marks: { Unmarked rows.now len (is_begun phase) },
     ghost index: { Indexed rows.now len },
+    ghost sides: { Sided rows.now settled },
 }

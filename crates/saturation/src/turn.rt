@@ -5,6 +5,7 @@ ghost use Rattle.saturation.specs.Tables.{view, Same, settled_row};
 ghost use Rattle.saturation.specs.Turns.{Turned};
 
 use crate::rows::NoRow;
+use crate::side::{Side, enter_settled};
 use crate::table::Table;
 use standpoint::Kind;
 
@@ -54,8 +55,11 @@ impl<'a, G: Copy> Table<'a, G> {
         ensures state { view self.new ≡ settled_row (view self.old) i }
     {
         let k = self.settled;
-        self.rows[k].turn = i;
-        self.rows[i].place = Some(k);
+        let statement = self.rows[i].statement;
+        let source = self.spot(Side::Source, Side::Source.key(statement));
+        let target = self.spot(Side::Target, Side::Target.key(statement));
+        let inner = self.spot(Side::Inner, Side::Inner.key(statement));
+        enter_settled(self.rows, k, i, source, target, inner);
         self.settled = k + 1;
     }
 }

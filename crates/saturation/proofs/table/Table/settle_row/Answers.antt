@@ -1,22 +1,31 @@
-use Rattle.std.proofs.Common.{◌+◌, ◌<◌, length, refl, arith, length-set}
+use Rattle.std.proofs.Common.{◌+◌, List, sym, ap, subst, ◌∙◌, arith}
+use Rattle.saturation.specs.declared.row.Row.{Row}
+use Rattle.saturation.specs.declared.side.Side.TheVariants.{Source, Target, Inner}
 use Rattle.saturation.specs.Phases.{is_begun}
-use Rattle.saturation.specs.Tables.{view, row_at, with_turn, placed}
-use Rattle.saturation.proofs.RowFacts.{facts_of, set_facts, turned_facts}
+use Rattle.saturation.specs.Sides.{spot_of}
+use Rattle.saturation.specs.Tables.{view}
+use Rattle.saturation.proofs.RowFacts.{RowFacts, facts_of, settled_facts}
+use Rattle.saturation.proofs.Settling.{settled_as}
 use Rattle.saturation.proofs.table.Table.settle_row.Goals as goal
 
 pub invariant_of-self : goal.invariant_of-self
 invariant_of-self g c =
     let t = c.args.self.now in
-    let fits = t.rows_fit in
-    let f = turned_facts t.rows.now t.settled t.len (is_begun t.phase) (facts_of t) c.args.i c.requires.0 (omega arith) in
-    record { rows_fit = f.fits; grades_fit = t.grades_fit; few = t.few; settled_fit = t.settled_fit; turns = λ k h. f.turns k (omega arith); marks = f.marks; index = f.index }
+    let rows = t.rows.now in
+    let room = c.requires.1 in
+    let f = subst (λ (new : List Row). RowFacts new (t.settled + 1) t.len (is_begun t.phase)) (sym c.enter_settled.ensures)
+    (settled_facts rows t.settled t.len (is_begun t.phase) (facts_of t) c.args.i c.spot-source.result c.spot-target.result c.spot-inner.result c.requires.0 c.requires.1
+    (c.spot-source.ensures.value ∙ ap (spot_of Source rows t.settled) c.key.ensures)
+    (c.spot-target.ensures.value ∙ ap (spot_of Target rows t.settled) c.key-2.ensures)
+    (c.spot-inner.ensures.value ∙ ap (spot_of Inner rows t.settled) c.key-3.ensures)) in
+    record { rows_fit = f.fits; grades_fit = t.grades_fit; few = t.few; settled_fit = omega arith; turns = f.turns; marks = f.marks; index = f.index; sides = f.sides }
 
-pub invariant_of-self-2 : goal.invariant_of-self-2
-invariant_of-self-2 g c =
+pub returns-clause-state : goal.returns-clause-state
+returns-clause-state g c =
     let t = c.args.self.now in
-    let fits = t.rows_fit in
-    let m = with_turn (view t) t.settled c.args.i in
-    let first = turned_facts t.rows.now t.settled t.len (is_begun t.phase) (facts_of t) c.args.i c.requires.0 (omega arith) in
-    let within : c.args.i < length m.rows = simp length-set (omega arith) in
-    let f = set_facts m.rows (t.settled + 1) t.len (is_begun t.phase) first c.args.i (placed (row_at m c.args.i) t.settled) within refl refl refl (λ on. refl) in
-    record { rows_fit = f.fits; grades_fit = t.grades_fit; few = t.few; settled_fit = omega arith; turns = f.turns; marks = f.marks; index = f.index }
+    let rows = t.rows.now in
+    settled_as (view t) c.args.i c.enter_settled.new.rows c.spot-source.result c.spot-target.result c.spot-inner.result
+    (c.spot-source.ensures.value ∙ ap (spot_of Source rows t.settled) c.key.ensures)
+    (c.spot-target.ensures.value ∙ ap (spot_of Target rows t.settled) c.key-2.ensures)
+    (c.spot-inner.ensures.value ∙ ap (spot_of Inner rows t.settled) c.key-3.ensures)
+    c.enter_settled.ensures
