@@ -12,7 +12,8 @@ pub mod Choosing
 pub mod Stepping
 pub mod Reading
 pub mod Searches
-pub mod Links
+pub mod Walking
+pub mod Partners
 pub mod Enumerating
 pub mod Pigeons
 pub mod Opening

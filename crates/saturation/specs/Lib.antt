@@ -3,6 +3,7 @@ pub mod Rows
 pub mod Chains
 pub mod Buckets
 pub mod Sides
+pub mod Lanes
 pub mod Tables
 pub mod Places
 pub mod Offering

@@ -34,6 +34,10 @@ target_key x =
 abbrev pub inner_key : Statement → Key
 inner_key x = key x.shape x.third x.fourth
 
+-- an existential's standpoint and role
+abbrev pub role_key : Statement → Key
+role_key x = key x.shape x.first x.third
+
 abbrev pub key_of : Side → Statement → Key
 key_of Source x = source_key x
 key_of Target x = target_key x

@@ -11,6 +11,7 @@ pub use turn::Turn;
 mod attempt;
 mod buckets;
 mod choose;
+mod lane;
 mod memory;
 mod offer;
 mod phase;

@@ -3,7 +3,7 @@
 ghost use Rattle.std.specs.Prelude.{◌≡◌, ◌<◌, length, slice_index_or};
 ghost use Rattle.saturation.specs.Rows.{no_row};
 ghost use Rattle.saturation.specs.Chains.{last_in};
-ghost use Rattle.saturation.specs.Sides.{source_key, target_key, inner_key, key_of, key_bucket, chain_of, side_bucket, spot_of, settled_rows};
+ghost use Rattle.saturation.specs.Sides.{source_key, target_key, inner_key, role_key, key_of, key_bucket, chain_of, side_bucket, spot_of, settled_rows};
 
 use crate::buckets::mixed;
 use crate::row::{Chain, Row};
@@ -69,13 +69,24 @@ pub(crate) fn target_key(x: Statement) -> Key
     }
 }
 
-fn inner_key(x: Statement) -> Key
+pub(crate) fn inner_key(x: Statement) -> Key
     ensures { result ≡ inner_key x }
 {
     Key {
         shape: x.shape,
         first: x.third,
         second: x.fourth,
+    }
+}
+
+// An existential's standpoint and role.
+pub(crate) fn role_key(x: Statement) -> Key
+    ensures { result ≡ role_key x }
+{
+    Key {
+        shape: x.shape,
+        first: x.first,
+        second: x.third,
     }
 }
 
@@ -140,7 +151,7 @@ pub(crate) fn enter_settled(
 
 impl<'a, G: Copy> Table<'a, G> {
     // The columns of a side's chains in row k.
-    fn chain(&self, side: Side, k: usize) -> Chain
+    pub(crate) fn chain(&self, side: Side, k: usize) -> Chain
         requires { k < length self.now.rows.now }
         ensures { result ≡ chain_of side (slice_index_or self.now.rows.now k no_row) }
     {
