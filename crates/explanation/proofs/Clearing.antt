@@ -7,7 +7,9 @@ use Rattle.saturation.specs.Rows.{no_row}
 use Rattle.saturation.specs.declared.table.Table.{Table}
 use Rattle.saturation.specs.Tables.{State, row_at}
 use Rattle.saturation.proofs.Offers.{below_or}
-use Rattle.saturation.proofs.Indexing.{heads_kept, links_kept}
+use Rattle.saturation.specs.Sides.{chain_of}
+use Rattle.saturation.proofs.Indexing.{index_kept}
+use Rattle.saturation.proofs.Siding.{same_chains, sides_kept}
 use Rattle.saturation.proofs.RowFacts.{RowFacts}
 use Rattle.explanation.specs.Marks.{remarked, Clean, ButMarks}
 
@@ -49,8 +51,10 @@ module _ (rows : List Row) (n : ℕ) (fit : n ≤ length rows) (part : List Row)
         fits = omega arith;
         turns = λ k h. subst (λ (t : ℕ). t < len) (sym (cleared_column (λ (r : Row). r.turn) (λ r. refl) k)) (f.turns k h);
         marks = λ on. absurd (both_ways _ off on);
-        heads = heads_kept rows (part ++ drop n rows) cleared_long len statement (cleared_column (λ (r : Row). r.head) (λ r. refl)) f.heads;
-        links = links_kept rows (part ++ drop n rows) cleared_long len statement (cleared_column (λ (r : Row). r.link) (λ r. refl)) f.links;
+        index = index_kept rows (part ++ drop n rows) cleared_long len statement (cleared_column (λ (r : Row). r.index) (λ r. refl)) f.index;
+        sides = sides_kept rows (part ++ drop n rows) cleared_long n
+            (λ k h. ap (λ (j : ℕ). (get_or (part ++ drop n rows) j no_row).statement) (cleared_column (λ (r : Row). r.turn) (λ r. refl) k) ∙ statement (get_or rows k no_row).turn)
+            (λ side. cleared_column (chain_of side) (λ r. same_chains (remarked r false) r refl refl refl side)) f.sides;
       }
 
   module _ {G : Type 0} (s u : State G) (of : s.rows ≡ rows) (at : s.settled ≡ n) (new : u.rows ≡ part ++ drop n rows) (len : u.len ≡ s.len) (settled : u.settled ≡ s.settled) (grades : u.grades ≡ s.grades) where

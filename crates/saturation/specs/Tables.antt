@@ -66,6 +66,9 @@ RowOf rows len x (Some i) = (i < len) × ((get_or rows i no_row).statement ≡ x
 abbrev pub Found : {G : Type 0} → State G → Statement → Option ℕ → Type 0
 Found s x r = RowOf s.rows s.len x r
 
+abbrev pub with_row : {G : Type 0} → State G → ℕ → Row → State G
+with_row s k r = record { rows = slice_set s.rows k r; grades = s.grades; len = s.len; settled = s.settled }
+
 -- the next row for x, linked to the last of its bucket
 abbrev pub taken : List Row → ℕ → Statement → Kept → Option ℕ → Row
 taken rows n x step link = record (slice_index_or rows n no_row) { statement = x; kept = step; place = None; mark = false; index = chain (slice_index_or rows n no_row).index.head link }
