@@ -17,8 +17,8 @@ use Rattle.saturation.proofs.Stepping.{step_long, step_few}
 two_within : {v rule : ℕ} {p q o : Statement} → Rule v rule (p ∷ q ∷ []) o → Within (partners rule First p) q × Within (partners rule Second q) p
 two_within role_transitive = (refl, refl)
 two_within sharper_transitive = (refl, refl)
-two_within (lowered low high) = (refl, tt)
-two_within lowered_inside = (refl, tt)
+two_within (lowered low high) = (refl, refl)
+two_within lowered_inside = (refl, (refl, refl))
 two_within inside_transitive = (refl, refl)
 two_within subsumed_nested = (refl, refl)
 two_within subsumed_possible = (refl, refl)
@@ -37,8 +37,8 @@ record ThreeWithin (rule : ℕ) (p q r : Statement) : Type 0 where
 
 three_within : {v rule : ℕ} {p q r o : Statement} → Rule v rule (p ∷ q ∷ r ∷ []) o → ThreeWithin rule p q r
 three_within sharper_than_both = record { first = (refl, refl); second = (refl, refl); third = (refl, refl) }
-three_within existential_widened = record { first = (refl, refl); second = (refl, refl); third = (tt, refl) }
-three_within existential_chained = record { first = (refl, refl); second = (refl, refl); third = (tt, refl) }
+three_within existential_widened = record { first = (refl, refl); second = (refl, refl); third = (refl, refl) }
+three_within existential_chained = record { first = (refl, refl); second = (refl, refl); third = (refl, refl) }
 three_within conjunction_met = record { first = (refl, refl); second = (refl, refl); third = (refl, refl) }
 
 module _ {G : Type 0} (al : Algebra G) (v rule : ℕ) (l : List (Statement × G)) (o : Statement × G) where

@@ -4,7 +4,7 @@ use Rattle.standpoint.specs.declared.statement.Statement.{Statement}
 use Rattle.standpoint.specs.Algebra.{Algebra}
 use Rattle.saturation.specs.declared.row.Row.{Row}
 use Rattle.saturation.specs.declared.lane.Lane.{Lane}
-use Rattle.saturation.specs.declared.lane.Lane.TheVariants.{Nowhere, Along, Everywhere}
+use Rattle.saturation.specs.declared.lane.Lane.TheVariants.{Nowhere, Along, Outer, Inside}
 use Rattle.saturation.specs.declared.side.Key.{Key}
 use Rattle.saturation.specs.declared.side.Side.{Side}
 use Rattle.saturation.specs.Chains.{last_in, links_in}
@@ -22,7 +22,8 @@ use Rattle.saturation.proofs.Searches.{Family, went_none, went_then, went_as}
 pub tracked : (rows : List Row) (lane : Lane) (k : ℕ) → Within lane (settled_at rows k) → track rows lane k ≡ lane_bucket rows lane
 tracked rows Nowhere k within = absurd within
 tracked rows (Along side node) k within = ap (key_bucket (length rows)) within
-tracked rows Everywhere k within = refl
+tracked rows (Outer standpoint) k within = refl
+tracked rows (Inside standpoint) k within = refl
 
 -- the link of a place on a lane
 pub link_along : (rows : List Row) (settled : ℕ) → Sided rows settled → (side : Side) (node : Key) (k : ℕ) → k < settled → side_bucket side rows k ≡ key_bucket (length rows) node →
@@ -33,11 +34,19 @@ pub last_nowhere : (rows : List Row) (n : ℕ) → last_in (track rows Nowhere) 
 last_nowhere rows zero = refl
 last_nowhere rows (suc n) = last_nowhere rows n
 
-pub last_everywhere : (rows : List Row) (n : ℕ) (r : Option ℕ) → SomeIff r (1 ≤ n) (n - 1) → r ≡ last_in (track rows Everywhere) 0 n
-last_everywhere rows zero None e = refl
-last_everywhere rows zero (Some i) e = absurd (let h = e.0 in let z : ⊥ = omega arith in z)
-last_everywhere rows (suc n) None e = absurd (e (omega arith))
-last_everywhere rows (suc n) (Some i) e = let same = e.1 in ap Some (omega (arith, same))
+-- a walk along all settled places
+last_of_all : (n : ℕ) (r : Option ℕ) → SomeIff r (1 ≤ n) (n - 1) → r ≡ last_in (λ k. 0) 0 n
+last_of_all zero None e = refl
+last_of_all zero (Some i) e = absurd (let h = e.0 in let z : ⊥ = omega arith in z)
+last_of_all (suc n) None e = absurd (e (omega arith))
+last_of_all (suc n) (Some i) e = let same = e.1 in ap Some (omega (arith, same))
+
+pub last_by_number : (rows : List Row) (lane : Lane) (n : ℕ) (r : Option ℕ) → ((x : ℕ) × (lane ≡ Outer x)) ⊎ ((x : ℕ) × (lane ≡ Inside x)) → SomeIff r (1 ≤ n) (n - 1) →
+    r ≡ last_in (track rows lane) (lane_bucket rows lane) n
+last_by_number rows lane n r which e =
+    let at : (v : Lane) → lane ≡ v → r ≡ last_in (track rows v) (lane_bucket rows v) n → r ≡ last_in (track rows lane) (lane_bucket rows lane) n =
+    λ v is. subst (λ (w : Lane). r ≡ last_in (track rows w) (lane_bucket rows w) n) (sym is) in
+    ⊎_elim (λ w. at (Outer w.0) w.1 (last_of_all n r e)) (λ w. at (Inside w.0) w.1 (last_of_all n r e)) which
 
 module _ {G : Type 0} (s : State G) (l : List (Statement × G)) (is : Lists s l) (lane : Lane) (k : ℕ) where
   -- what is listed on a lane is so in the rows
@@ -55,12 +64,14 @@ module _ {G : Type 0} (s t : State G) (fit : Fit s) (grown : Grown s t) where
   track_grown (Along side node) k h =
       ap (λ (m : ℕ). key_bucket m (key_of side (settled_at t.rows k))) grown.rows_long
       ∙ ap (λ (x : Statement). key_bucket (length s.rows) (key_of side x)) (ap (statement_at t) (turn_kept s t fit grown k h) ∙ grown.statements (turn_at s k) (fit.1 k h))
-  track_grown Everywhere k h = refl
+  track_grown (Outer standpoint) k h = refl
+  track_grown (Inside standpoint) k h = refl
 
   bucket_grown : (lane : Lane) → lane_bucket t.rows lane ≡ lane_bucket s.rows lane
   bucket_grown Nowhere = refl
   bucket_grown (Along side node) = ap (λ (m : ℕ). key_bucket m node) grown.rows_long
-  bucket_grown Everywhere = refl
+  bucket_grown (Outer standpoint) = refl
+  bucket_grown (Inside standpoint) = refl
 
   pub on_grown : (lane : Lane) (k : ℕ) → k < s.settled → track s.rows lane k ≡ lane_bucket s.rows lane → (k < t.settled) × (track t.rows lane k ≡ lane_bucket t.rows lane)
   on_grown lane k h here = let same = grown.settled in (omega arith, track_grown lane k h ∙ here ∙ sym (bucket_grown lane))

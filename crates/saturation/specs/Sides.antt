@@ -30,13 +30,9 @@ target_key x =
     (cond (x.shape == 5) (key x.shape x.first x.fourth)
     (key x.shape x.first x.third))))
 
--- where the inclusion inside a nested one starts
+-- where the inclusion inside a nested one starts, and an existential's role
 abbrev pub inner_key : Statement → Key
-inner_key x = key x.shape x.third x.fourth
-
--- an existential's standpoint and role
-abbrev pub role_key : Statement → Key
-role_key x = key x.shape x.first x.third
+inner_key x = cond (x.shape == 3) (key x.shape x.third x.fourth) (key x.shape x.first x.third)
 
 abbrev pub key_of : Side → Statement → Key
 key_of Source x = source_key x

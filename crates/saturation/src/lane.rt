@@ -7,7 +7,7 @@ ghost use Rattle.saturation.specs.Sides.{key, settled_at};
 ghost use Rattle.saturation.specs.Lanes.{when, along, beside_first, beside_second, beside_third, partners, last_lane, Within, track, lane_bucket};
 
 use crate::places::Position;
-use crate::side::{Key, Side, inner_key, role_key, source_key, target_key};
+use crate::side::{Key, Side, inner_key, source_key, target_key};
 use crate::table::Table;
 use standpoint::shape::{
     CONJUNCTION_LEFT, EXISTENTIAL_LEFT, EXISTENTIAL_RIGHT, INTERSECTION_SHARPER, NESTED_INCLUSION,
@@ -20,7 +20,10 @@ pub(crate) enum Lane {
     Nowhere,
     // With this node on this side.
     Along(Side, Key),
-    Everywhere,
+    // Of any shape, whose first number is this standpoint.
+    Outer(u16),
+    // Nested inclusions whose third number is this standpoint.
+    Inside(u16),
 }
 
 // The statements of a shape whose node on a side has the two names of this one.
@@ -74,12 +77,22 @@ fn beside_first(rule: Rule, x: Statement) -> Lane
         Rule::Lowered => along(Side::Target, SHARPER, sharpened_to(x.first)),
         Rule::LoweredInside => when(nested, along(Side::Target, SHARPER, sharpened_to(x.third))),
         Rule::InsideTransitive => when(nested, along(Side::Source, NESTED_INCLUSION, source)),
-        Rule::SubsumedNested | Rule::NecessaryThenNested => {
-            when(nested, along(Side::Source, NESTED_INCLUSION, target))
-        }
-        Rule::SubsumedPossible | Rule::NecessaryThenPossible => {
-            when(nested, along(Side::Source, POSSIBLE_INCLUSION, target))
-        }
+        Rule::SubsumedNested => when(
+            nested && x.second == 0,
+            along(Side::Source, NESTED_INCLUSION, target),
+        ),
+        Rule::SubsumedPossible => when(
+            nested && x.second == 0,
+            along(Side::Source, POSSIBLE_INCLUSION, target),
+        ),
+        Rule::NecessaryThenNested => when(
+            nested && x.fourth == 0,
+            along(Side::Source, NESTED_INCLUSION, target),
+        ),
+        Rule::NecessaryThenPossible => when(
+            nested && x.fourth == 0,
+            along(Side::Source, POSSIBLE_INCLUSION, target),
+        ),
         Rule::PossibleWidened => when(possible, along(Side::Source, NESTED_INCLUSION, source)),
         Rule::PossibleThenNested => when(possible, along(Side::Source, NESTED_INCLUSION, target)),
         Rule::PossibleThenPossible => {
@@ -88,10 +101,13 @@ fn beside_first(rule: Rule, x: Statement) -> Lane
         Rule::ExistentialWidened => {
             when(
                 existential,
-                along(Side::Source, ROLE_INCLUSION, role_key(x)),
+                along(Side::Source, ROLE_INCLUSION, inner_key(x)),
             )
         }
-        Rule::ExistentialChained => when(existential, along(Side::Source, ROLE_CHAIN, role_key(x))),
+        Rule::ExistentialChained => when(
+            existential,
+            along(Side::Source, ROLE_CHAIN, inner_key(x)),
+        ),
         Rule::ExistentialMet => when(existential, along(Side::Source, EXISTENTIAL_LEFT, target)),
         Rule::ConjunctionMet => when(nested, along(Side::Source, CONJUNCTION_LEFT, target)),
         _ => Lane::Nowhere,
@@ -114,7 +130,8 @@ fn beside_second(rule: Rule, x: Statement) -> Lane
         ),
         Rule::SharperTransitive => when(sharper, along(Side::Target, SHARPER, source)),
         Rule::SharperThanBoth => when(sharper, along(Side::Target, INTERSECTION_SHARPER, target)),
-        Rule::Lowered | Rule::LoweredInside => when(sharper, Lane::Everywhere),
+        Rule::Lowered => when(sharper, Lane::Outer(x.second)),
+        Rule::LoweredInside => when(sharper, Lane::Inside(x.second)),
         Rule::InsideTransitive => when(nested, along(Side::Source, NESTED_INCLUSION, source)),
         Rule::SubsumedNested | Rule::NecessaryThenNested => {
             when(nested, along(Side::Target, NESTED_INCLUSION, source))
@@ -127,12 +144,13 @@ fn beside_second(rule: Rule, x: Statement) -> Lane
         Rule::PossibleThenPossible => {
             when(possible, along(Side::Target, POSSIBLE_INCLUSION, source))
         }
-        Rule::ExistentialWidened => {
-            when(nested, along(Side::Target, EXISTENTIAL_RIGHT, inner_key(x)))
-        }
+        Rule::ExistentialWidened => when(
+            nested && x.second == 0,
+            along(Side::Target, EXISTENTIAL_RIGHT, inner_key(x)),
+        ),
         Rule::ExistentialChained => when(
             x.shape == EXISTENTIAL_RIGHT,
-            along(Side::Target, ROLE_CHAIN, role_key(x)),
+            along(Side::Target, ROLE_CHAIN, inner_key(x)),
         ),
         Rule::ExistentialMet => when(
             x.shape == EXISTENTIAL_LEFT,
@@ -152,8 +170,14 @@ fn beside_third(rule: Rule, x: Statement) -> Lane
             x.shape == INTERSECTION_SHARPER,
             along(Side::Target, SHARPER, source_key(x)),
         ),
-        Rule::ExistentialWidened => when(x.shape == ROLE_INCLUSION, Lane::Everywhere),
-        Rule::ExistentialChained => when(x.shape == ROLE_CHAIN, Lane::Everywhere),
+        Rule::ExistentialWidened => when(
+            x.shape == ROLE_INCLUSION,
+            along(Side::Inner, EXISTENTIAL_RIGHT, source_key(x)),
+        ),
+        Rule::ExistentialChained => when(
+            x.shape == ROLE_CHAIN,
+            along(Side::Inner, EXISTENTIAL_RIGHT, source_key(x)),
+        ),
         Rule::ConjunctionMet => when(
             x.shape == CONJUNCTION_LEFT,
             along(Side::Target, NESTED_INCLUSION, source_key(x)),
@@ -185,22 +209,20 @@ pub(crate) fn last_lane(rule: Rule, position: Position, x: Statement, y: Stateme
             along(Side::Inner, NESTED_INCLUSION, target_key(x))
         }
         (Rule::ExistentialWidened, Position::Second) => {
-            along(Side::Source, ROLE_INCLUSION, role_key(y))
+            along(Side::Source, ROLE_INCLUSION, inner_key(y))
         }
-        (Rule::ExistentialWidened, Position::Third) => when(
-            y.shape == EXISTENTIAL_RIGHT,
-            along(Side::Inner, NESTED_INCLUSION, target_key(y)),
-        ),
+        (Rule::ExistentialWidened, Position::Third) => {
+            along(Side::Inner, NESTED_INCLUSION, target_key(y))
+        }
         (Rule::ExistentialChained, Position::First) => {
             along(Side::Source, EXISTENTIAL_RIGHT, target_key(x))
         }
         (Rule::ExistentialChained, Position::Second) => {
             along(Side::Target, EXISTENTIAL_RIGHT, source_key(x))
         }
-        (Rule::ExistentialChained, Position::Third) => when(
-            y.shape == EXISTENTIAL_RIGHT,
-            along(Side::Source, EXISTENTIAL_RIGHT, target_key(y)),
-        ),
+        (Rule::ExistentialChained, Position::Third) => {
+            along(Side::Source, EXISTENTIAL_RIGHT, target_key(y))
+        }
         (Rule::ConjunctionMet, Position::First) => {
             along(Side::Target, NESTED_INCLUSION, target_key(y))
         }
@@ -223,7 +245,7 @@ impl<'a, G: Copy> Table<'a, G> {
         match lane {
             Lane::Nowhere => None,
             Lane::Along(side, key) => self.spot(side, key).last,
-            Lane::Everywhere => self.settled.checked_sub(1),
+            Lane::Outer(_) | Lane::Inside(_) => self.settled.checked_sub(1),
         }
     }
 
@@ -235,7 +257,7 @@ impl<'a, G: Copy> Table<'a, G> {
         match lane {
             Lane::Nowhere => None,
             Lane::Along(side, _) => self.chain(side, k).link,
-            Lane::Everywhere => k.checked_sub(1),
+            Lane::Outer(_) | Lane::Inside(_) => k.checked_sub(1),
         }
     }
 
@@ -247,7 +269,11 @@ impl<'a, G: Copy> Table<'a, G> {
         match lane {
             Lane::Nowhere => false,
             Lane::Along(side, key) => side.key(self.settled_statement(k)) == key,
-            Lane::Everywhere => true,
+            Lane::Outer(standpoint) => self.settled_statement(k).first == standpoint,
+            Lane::Inside(standpoint) => {
+                let y = self.settled_statement(k);
+                y.shape == NESTED_INCLUSION && y.third == standpoint
+            }
         }
     }
 }

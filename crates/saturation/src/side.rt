@@ -3,7 +3,7 @@
 ghost use Rattle.std.specs.Prelude.{◌≡◌, ◌<◌, length, slice_index_or};
 ghost use Rattle.saturation.specs.Rows.{no_row};
 ghost use Rattle.saturation.specs.Chains.{last_in};
-ghost use Rattle.saturation.specs.Sides.{source_key, target_key, inner_key, role_key, key_of, key_bucket, chain_of, side_bucket, spot_of, settled_rows};
+ghost use Rattle.saturation.specs.Sides.{source_key, target_key, inner_key, key_of, key_bucket, chain_of, side_bucket, spot_of, settled_rows};
 
 use crate::buckets::mixed;
 use crate::row::{Chain, Row};
@@ -22,7 +22,7 @@ pub(crate) struct Key {
     pub second: u16,
 }
 
-// Where a statement starts, where it ends, and where the inclusion inside a nested one starts.
+// Where a statement starts, where it ends, and what is inside: where the inclusion inside a nested one starts, an existential's role.
 #[derive(Clone, Copy)]
 pub(crate) enum Side {
     Source,
@@ -72,21 +72,14 @@ pub(crate) fn target_key(x: Statement) -> Key
 pub(crate) fn inner_key(x: Statement) -> Key
     ensures { result ≡ inner_key x }
 {
+    let (first, second) = match x.shape {
+        NESTED_INCLUSION => (x.third, x.fourth),
+        _ => (x.first, x.third),
+    };
     Key {
         shape: x.shape,
-        first: x.third,
-        second: x.fourth,
-    }
-}
-
-// An existential's standpoint and role.
-pub(crate) fn role_key(x: Statement) -> Key
-    ensures { result ≡ role_key x }
-{
-    Key {
-        shape: x.shape,
-        first: x.first,
-        second: x.third,
+        first,
+        second,
     }
 }
 
