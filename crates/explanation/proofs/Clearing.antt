@@ -7,8 +7,9 @@ use Rattle.saturation.specs.Rows.{no_row}
 use Rattle.saturation.specs.declared.table.Table.{Table}
 use Rattle.saturation.specs.Tables.{State, row_at}
 use Rattle.saturation.proofs.Offers.{below_or}
-use Rattle.saturation.proofs.Indexing.{heads_kept, links_kept}
-use Rattle.saturation.proofs.Linking.{class_same, class_links_kept}
+use Rattle.saturation.specs.Sides.{chain_of}
+use Rattle.saturation.proofs.Indexing.{index_kept}
+use Rattle.saturation.proofs.Siding.{same_chains, sides_kept}
 use Rattle.saturation.proofs.RowFacts.{RowFacts}
 use Rattle.explanation.specs.Marks.{remarked, Clean, ButMarks}
 
@@ -41,21 +42,19 @@ module _ (rows : List Row) (n : ℕ) (fit : n ≤ length rows) (part : List Row)
   cleared_column : {X : Type 0} (f : Row → X) → ((r : Row) → f (remarked r false) ≡ f r) → (k : ℕ) → f (get_or (part ++ drop n rows) k no_row) ≡ f (get_or rows k no_row)
   cleared_column f apart k = ⊎_elim (λ lt. ap f (below_cleared k lt) ∙ apart (get_or rows k no_row)) (λ ge. ap f (above_cleared k ge)) (below_or k n)
 
-  pub cleared_facts : (latest : List ℕ) (len : ℕ) (begun : Bool) → begun ≡ false → RowFacts rows latest n len begun → RowFacts (part ++ drop n rows) latest n len begun
-  cleared_facts latest len begun off f =
+  pub cleared_facts : (len : ℕ) (begun : Bool) → begun ≡ false → RowFacts rows n len begun → RowFacts (part ++ drop n rows) n len begun
+  cleared_facts len begun off f =
       let fits = f.fits in
       let long = cleared_long in
       let statement = cleared_column (λ (r : Row). r.statement) (λ r. refl) in
-      let turn = cleared_column (λ (r : Row). r.turn) (λ r. refl) in
       record {
         fits = omega arith;
-        turns = λ k h. subst (λ (t : ℕ). t < len) (sym (turn k)) (f.turns k h);
+        turns = λ k h. subst (λ (t : ℕ). t < len) (sym (cleared_column (λ (r : Row). r.turn) (λ r. refl) k)) (f.turns k h);
         marks = λ on. absurd (both_ways _ off on);
-        bucket_heads = heads_kept rows (part ++ drop n rows) cleared_long len statement (cleared_column (λ (r : Row). r.head) (λ r. refl)) f.bucket_heads;
-        bucket_links = links_kept rows (part ++ drop n rows) cleared_long len statement (cleared_column (λ (r : Row). r.link) (λ r. refl)) f.bucket_links;
-        class_links = class_links_kept rows (part ++ drop n rows) latest n
-            (λ k h. class_same rows (part ++ drop n rows) statement k (turn k))
-            (λ k h. cleared_column (λ (r : Row). r.earlier) (λ r. refl) k) f.class_links;
+        index = index_kept rows (part ++ drop n rows) cleared_long len statement (cleared_column (λ (r : Row). r.index) (λ r. refl)) f.index;
+        sides = sides_kept rows (part ++ drop n rows) cleared_long n
+            (λ k h. ap (λ (j : ℕ). (get_or (part ++ drop n rows) j no_row).statement) (cleared_column (λ (r : Row). r.turn) (λ r. refl) k) ∙ statement (get_or rows k no_row).turn)
+            (λ side. cleared_column (chain_of side) (λ r. same_chains (remarked r false) r refl refl refl side)) f.sides;
       }
 
   module _ {G : Type 0} (s u : State G) (of : s.rows ≡ rows) (at : s.settled ≡ n) (new : u.rows ≡ part ++ drop n rows) (len : u.len ≡ s.len) (settled : u.settled ≡ s.settled) (grades : u.grades ≡ s.grades) where

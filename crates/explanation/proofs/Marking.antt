@@ -62,13 +62,6 @@ module _ {G : Type 0} where
     only = λ j m. ⊎_elim (λ x. ⊎_elim (λ y. inl y) (λ y. inr (inl y)) (a.only j x)) (λ y. inr (inr y)) (b.only j m);
   }
 
-  -- each place that the k-th step names is marked
-  pub adds_rests : (s t u v : State G) (k : ℕ) (kept : Kept) → kept ≡ kept_at s k →
-      AddsMarks s t (λ j. kept.first ≡ j + 1) → AddsMarks t u (λ j. kept.second ≡ j + 1) → AddsMarks u v (λ j. kept.third ≡ j + 1) → AddsMarks s v (Rests s k)
-  adds_rests s t u v k kept is a b c =
-      subst (λ (w : Kept). AddsMarks s v (Names w)) is
-      (adds_then s t v (λ j. kept.first ≡ j + 1) (λ j. (kept.second ≡ j + 1) ⊎ (kept.third ≡ j + 1)) a (adds_then t u v (λ j. kept.second ≡ j + 1) (λ j. kept.third ≡ j + 1) b c))
-
   -- the loop
   marks_start : (s u : State G) (t : ℕ) → t < s.settled → s.settled ≤ length s.rows → Clean s → u ≡ with_mark s t true → MarksDown s u t 0
   marks_start s u t h fit clean e =

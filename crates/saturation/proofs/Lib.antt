@@ -1,8 +1,9 @@
 pub mod Writing
+pub mod Chaining
 pub mod Indexing
-pub mod Offers
-pub mod Linking
+pub mod Siding
 pub mod RowFacts
+pub mod Offers
 pub mod Lists
 pub mod Numbering
 pub mod Sameness
@@ -12,9 +13,8 @@ pub mod Stepping
 pub mod Reading
 pub mod Searches
 pub mod Walking
-pub mod Links
+pub mod Partners
 pub mod Enumerating
-pub mod Premises
 pub mod Pigeons
 pub mod Opening
 pub mod Settling

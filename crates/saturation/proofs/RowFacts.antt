@@ -1,69 +1,95 @@
 -- What a table's ghost fields say of its rows, and the writes that keep it.
-use Rattle.std.proofs.Common.{◌≡◌, ℕ, ◌+◌, ◌<◌, ◌≤◌, Bool, true, false, List, length, get_or, slice_index, slice_set, sym, refl, ap, ◌∙◌, subst, ⊎_elim, arith, length-set}
+use Rattle.std.proofs.Common.{◌≡◌, ℕ, ◌+◌, ◌<◌, ◌≤◌, Bool, true, false, List, length, get_or, sym, refl, ap, ◌∙◌, subst, ⊎_elim, arith, length-set}
 use lib.ListN.{set}
 use Rattle.std.proofs.lemmas.Bool.Decides.{eqb_tells}
 use Rattle.saturation.specs.declared.row.Row.{Row}
 use Rattle.saturation.specs.declared.table.Table.{Table}
 use Rattle.saturation.specs.Phases.{is_begun}
 use Rattle.saturation.specs.Rows.{no_row, TurnsWithin, Unmarked}
-use Rattle.saturation.specs.Buckets.{bucket_of, last_in, HeadsLast, LinksBack, entered}
-use Rattle.saturation.specs.Classes.{class_of, ClassLinks}
-use Rattle.saturation.specs.Tables.{turned}
-use Rattle.saturation.proofs.Writing.{write_here, write_other, turns_written, marks_written}
-use Rattle.saturation.proofs.Indexing.{set_heads, set_links, entered_long, entered_old, entered_new, entered_heads, entered_links}
-use Rattle.saturation.proofs.Linking.{set_class_links, turned_class_links, entered_class_links}
+use Rattle.saturation.specs.Chains.{last_in}
+use Rattle.saturation.specs.Buckets.{bucket_of, bucket_at, Indexed, entered}
+use Rattle.saturation.specs.declared.side.Spot.{Spot}
+use Rattle.saturation.specs.declared.side.Side.{Side}
+use Rattle.saturation.specs.declared.side.Side.TheVariants.{Source, Target, Inner}
+use Rattle.saturation.specs.Sides.{key_of, chain_of, Sided, spot_of, placed, turned, settled_rows}
+use Rattle.saturation.proofs.Writing.{write_leaves, turns_written, marks_written}
+use Rattle.saturation.proofs.Indexing.{index_kept, entered_long, entered_old, entered_new, entered_same, entered_index}
+use Rattle.saturation.proofs.Siding.{Apart, key_below, sides_kept, sides_apart, spots_are, statement_apart, mark_apart, index_apart, settled_long, settled_leaves, turn_old, turn_new, settled_sides}
 
-pub record RowFacts (rows : List Row) (latest : List ℕ) (settled len : ℕ) (begun : Bool) : Type 0 where
+pub record RowFacts (rows : List Row) (settled len : ℕ) (begun : Bool) : Type 0 where
   pub fits : len ≤ length rows
   pub turns : TurnsWithin rows settled len
   pub marks : Unmarked rows len begun
-  pub bucket_heads : HeadsLast rows len
-  pub bucket_links : LinksBack rows len
-  pub class_links : ClassLinks rows latest settled
+  pub index : Indexed rows len
+  pub sides : Sided rows settled
 
-pub facts_of : {G : Type 0} (t : Table G) → RowFacts t.rows.now t.latest t.settled t.len (is_begun t.phase)
-facts_of t = record { fits = t.rows_fit; turns = t.turns; marks = t.marks; bucket_heads = t.bucket_heads; bucket_links = t.bucket_links; class_links = t.class_links }
+pub facts_of : {G : Type 0} (t : Table G) → RowFacts t.rows.now t.settled t.len (is_begun t.phase)
+facts_of t = record { fits = t.rows_fit; turns = t.turns; marks = t.marks; index = t.index; sides = t.sides }
 
-module _ (rows : List Row) (latest : List ℕ) (settled len : ℕ) (begun : Bool) (f : RowFacts rows latest settled len begun) where
+module _ (rows : List Row) (settled len : ℕ) (begun : Bool) (f : RowFacts rows settled len begun) where
   -- one row written that keeps these columns; marks are free where no run is begun
-  pub set_facts : (i : ℕ) (r : Row) → i < length rows → r.statement ≡ (get_or rows i no_row).statement → r.turn ≡ (get_or rows i no_row).turn → r.earlier ≡ (get_or rows i no_row).earlier →
-      r.head ≡ (get_or rows i no_row).head → r.link ≡ (get_or rows i no_row).link → (begun ≡ true → r.mark ≡ (get_or rows i no_row).mark) → RowFacts (set rows i r) latest settled len begun
-  set_facts i r within statement turn earlier head link mark =
+  pub set_facts : (i : ℕ) (r : Row) → i < length rows → r.statement ≡ (get_or rows i no_row).statement → r.turn ≡ (get_or rows i no_row).turn →
+      r.index ≡ (get_or rows i no_row).index → ((side : Side) → chain_of side r ≡ chain_of side (get_or rows i no_row)) → (begun ≡ true → r.mark ≡ (get_or rows i no_row).mark) → RowFacts (set rows i r) settled len begun
+  set_facts i r within statement turn chain sides mark =
       let fits = f.fits in
       let long = length-set rows i r in
       record {
         fits = omega arith;
         turns = turns_written rows i r within settled len turn f.turns;
         marks = λ on. marks_written rows i r within len begun (mark on) f.marks on;
-        bucket_heads = set_heads rows i r within len statement head f.bucket_heads;
-        bucket_links = set_links rows i r within len statement link f.bucket_links;
-        class_links = set_class_links rows i r latest settled within statement turn earlier f.class_links;
+        index = index_kept rows (set rows i r) long len (write_leaves rows i r within (λ (w : Row). w.statement) statement) (write_leaves rows i r within (λ (w : Row). w.index) chain) f.index;
+        sides = sides_kept rows (set rows i r) long settled
+            (λ k h.
+            ap (λ (j : ℕ). (get_or (set rows i r) j no_row).statement) (write_leaves rows i r within (λ (w : Row). w.turn) turn k)
+            ∙ write_leaves rows i r within (λ (w : Row). w.statement) statement (get_or rows k no_row).turn)
+            (λ side k. write_leaves rows i r within (chain_of side) (sides side) k) f.sides;
       }
 
-  -- row i is what is settled next, the last of its class
-  pub turned_facts : (i h c : ℕ) → i < len → settled < length rows → length latest ≡ 10 → c ≡ class_of (get_or rows i no_row).statement → h ≡ slice_index latest c →
-      RowFacts (set rows settled (turned (get_or rows settled no_row) i h)) (slice_set latest c (settled + 1)) (settled + 1) len begun
-  turned_facts i h c below within classes is link =
-      let r = turned (get_or rows settled no_row) i h in
-      let fits = f.fits in
-      let long = length-set rows settled r in
-      record {
-        fits = omega arith;
-        turns = λ k low.
-            ⊎_elim
-            (λ t. subst (λ (n : ℕ). n < len) (sym (ap (λ (j : ℕ). (get_or (set rows settled r) j no_row).turn) t.1 ∙ ap (λ (w : Row). w.turn) (write_here rows settled r within))) below)
-            (λ n. let ne = n.1 in subst (λ (t : ℕ). t < len) (sym (ap (λ (w : Row). w.turn) (write_other rows settled r within k ne))) (f.turns k (omega arith)))
-            (eqb_tells k settled);
-        marks = marks_written rows settled r within len begun refl f.marks;
-        bucket_heads = set_heads rows settled r within len refl refl f.bucket_heads;
-        bucket_links = set_links rows settled r within len refl refl f.bucket_links;
-        class_links = turned_class_links rows settled i h within latest c classes is link f.class_links;
-      }
+  -- row i is settled next
+  module _ (i : ℕ) (source target inner : Spot) (below : i < len) (room : settled < len)
+      (a : source ≡ spot_of Source rows settled (key_of Source (get_or rows i no_row).statement))
+      (b : target ≡ spot_of Target rows settled (key_of Target (get_or rows i no_row).statement))
+      (c : inner ≡ spot_of Inner rows settled (key_of Inner (get_or rows i no_row).statement)) where
+    abbrev new : List Row
+    new = settled_rows rows settled i source target inner
+
+    in_n : settled < length rows
+    in_n = let fits = f.fits in omega arith
+
+    in_i : i < length rows
+    in_i = let fits = f.fits in omega arith
+
+    in_bucket : (side : Side) (v : Spot) → v ≡ spot_of side rows settled (key_of side (get_or rows i no_row).statement) → v.bucket < length rows
+    in_bucket side v is = subst (λ (w : Spot). w.bucket < length rows) (sym is) (key_below (length rows) (key_of side (get_or rows i no_row).statement) (let h = in_n in omega arith))
+
+    left : {X : Type 0} (g : Row → X) → Apart g → ((r : Row) (p : ℕ) → g (placed r p) ≡ g r) → g (turned (get_or rows settled no_row) i source target inner) ≡ g (get_or rows settled no_row) → (j : ℕ) → g (get_or new j no_row) ≡ g (get_or rows j no_row)
+    left = settled_leaves rows settled i source target inner in_n in_i (in_bucket Source source a) (in_bucket Target target b) (in_bucket Inner inner c)
+
+    pub settled_facts : RowFacts new (settled + 1) len begun
+    settled_facts =
+        let fits = f.fits in
+        let in_source = in_bucket Source source a in
+        let in_target = in_bucket Target target b in
+        let in_inner = in_bucket Inner inner c in
+        let long = settled_long rows settled i source target inner in_n in_i in_source in_target in_inner in
+        record {
+          fits = omega arith;
+          turns = λ k h.
+              ⊎_elim
+              (λ t. subst (λ (n : ℕ). n < len) (sym (ap (λ (j : ℕ). (get_or new j no_row).turn) t.1 ∙ turn_new rows settled i source target inner in_n in_i in_source in_target in_inner)) below)
+              (λ n. let ne = n.1 in subst (λ (t : ℕ). t < len) (sym (turn_old rows settled i source target inner in_n in_i in_source in_target in_inner k ne)) (f.turns k (omega arith)))
+              (eqb_tells k settled);
+          marks = λ on k h. left (λ r. r.mark) mark_apart (λ r p. refl) refl k ∙ f.marks on k h;
+          index = index_kept rows new long len (left (λ r. r.statement) statement_apart (λ r p. refl) refl) (left (λ r. r.index) index_apart (λ r p. refl) refl) f.index;
+          sides = settled_sides rows settled i source target inner in_n in_i in_source in_target in_inner
+              (spots_are rows settled i source target inner in_n in_i in_source in_target in_inner (λ side. spot_of side rows settled (key_of side (get_or rows i no_row).statement)) a b c)
+              f.sides;
+        }
 
   -- one row more
   pub entered_facts : (x : Row) (b : ℕ) → b ≡ bucket_of (length rows) x.statement → len < length rows → settled ≤ len →
-      x.mark ≡ false → x.head ≡ (get_or rows len no_row).head → x.link ≡ last_in rows b len → RowFacts (entered rows len x b) latest settled (len + 1) begun
-  entered_facts x b is within low mark head link =
+      x.mark ≡ false → x.index.head ≡ (get_or rows len no_row).index.head → x.index.link ≡ last_in (bucket_at rows) b len → x.turn ≡ (get_or rows len no_row).turn → ((side : Side) → chain_of side x ≡ chain_of side (get_or rows len no_row)) → RowFacts (entered rows len x b) settled (len + 1) begun
+  entered_facts x b is within low mark head link turn sides =
       let long = entered_long rows len x b is within in
       record {
         fits = omega arith;
@@ -76,7 +102,10 @@ module _ (rows : List Row) (latest : List ℕ) (settled len : ℕ) (begun : Bool
             (λ t. ap (λ (j : ℕ). (get_or (entered rows len x b) j no_row).mark) t.1 ∙ entered_new rows len x b is within (λ (r : Row). r.mark) (λ r k. refl) ∙ mark)
             (λ n. let ne = n.1 in entered_old rows len x b is within (λ (r : Row). r.mark) (λ r k. refl) k ne ∙ f.marks on k (omega arith))
             (eqb_tells k len);
-        bucket_heads = entered_heads rows len x b is within head f.bucket_heads;
-        bucket_links = entered_links rows len x b is within link f.bucket_links;
-        class_links = entered_class_links rows len x b is latest settled within low f.turns f.class_links;
+        index = entered_index rows len x b is within head link f.index;
+        sides = sides_kept rows (entered rows len x b) long settled
+            (λ k h.
+            ap (λ (j : ℕ). (get_or (entered rows len x b) j no_row).statement) (entered_same rows len x b is within (λ (r : Row). r.turn) (λ r j. refl) turn k)
+            ∙ entered_old rows len x b is within (λ (r : Row). r.statement) (λ r j. refl) (get_or rows k no_row).turn (λ e. let t = f.turns k h in omega arith))
+            (λ side. entered_same rows len x b is within (chain_of side) (sides_apart side) (sides side)) f.sides;
       }

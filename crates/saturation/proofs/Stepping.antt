@@ -1,12 +1,12 @@
 -- Steps over places of the settled list, and one settled statement more.
-use Rattle.std.proofs.Common.{◌≡◌, ℕ, zero, suc, ◌+◌, ◌<◌, ◌⊎◌, List, [], ◌∷◌, ◌++◌, length, get_or, sym, refl, ◌∙◌, subst, inl, inr, ⊎_elim, arith, length-append}
+use Rattle.std.proofs.Common.{◌≡◌, ℕ, zero, suc, ◌+◌, ◌<◌, ◌≤◌, ◌⊎◌, List, [], ◌∷◌, ◌++◌, length, get_or, sym, refl, ◌∙◌, subst, inl, inr, ⊎_elim, arith, length-append}
 use Rattle.std.proofs.lemmas.List.{get_or_append_left}
 use Rattle.standpoint.specs.declared.statement.Statement.{Statement}
 use Rattle.standpoint.specs.Lists.{In, StandsAt}
 use Rattle.standpoint.specs.Algebra.{Algebra}
-use Rattle.standpoint.specs.Rules.{Rule}
+use Rattle.standpoint.specs.Rules.{Rule, arity_of}
 use Rattle.standpoint.specs.Derivations.{Base, Leaf}
-use Rattle.standpoint.proofs.Arities.{few_premises}
+use Rattle.standpoint.proofs.Arities.{few_premises, has_arity}
 use Rattle.runs.specs.Runs.{Offers}
 use Rattle.runs.specs.Runs.Offers.{leaf, one, two, three}
 use Rattle.saturation.specs.declared.row.Kept.{Kept}
@@ -153,3 +153,31 @@ module _ {G : Type 0} (al : Algebra G) (base : Base G) (l : List (Statement × G
       (λ new. inr new)
       (step_down l p al base.sizes.individuals s.0 s.1.0 (x, g) s.1.1))
       (offers_step al base (l ++ p ∷ []) x g o)
+
+stand_long : {X : Type 0} (l : List X) (ks : List ℕ) (ps : List X) → StandAt l ks ps → length ks ≡ length ps
+stand_long l [] [] a = refl
+stand_long l [] (p ∷ ps) a = absurd a
+stand_long l (k ∷ ks) [] a = absurd a
+stand_long l (k ∷ ks) (p ∷ ps) a = let e = stand_long l ks ps a.1 in omega arith
+
+long_statements : {G : Type 0} (ps : List (Statement × G)) → length (statements_of ps) ≡ length ps
+long_statements [] = refl
+long_statements (p ∷ ps) = let e = long_statements ps in omega arith
+
+-- a step has as many places as its rule has premises: 1, 2 or 3
+module _ {G : Type 0} (al : Algebra G) (v : ℕ) (l : List (Statement × G)) (rule : ℕ) (places : List ℕ) (o : Statement × G) (a : Step al v l rule places o) where
+  pub step_long : length places ≡ arity_of rule
+  step_long =
+      let e = stand_long l places a.premises a.stand in
+      let f = long_statements a.premises in
+      let h = (has_arity rule (arity_of rule) refl).premises v (statements_of a.premises) o.0 a.gives in
+      omega arith
+
+  pub step_few : (1 ≤ length places) × (length places ≤ 3)
+  step_few =
+      let e = stand_long l places a.premises a.stand in
+      let f = long_statements a.premises in
+      let h = few_premises a.gives in
+      let low = h.0 in
+      let high = h.1 in
+      (omega arith, omega arith)

@@ -1,75 +1,108 @@
--- A walk along the links of a class, from its last settled statement back.
-use Rattle.std.proofs.Common.{◌≡◌, ℕ, ◌+◌, ◌<◌, ◌≤◌, true, ◌⊎◌, List, slice_index, sym, refl, ap, ◌∙◌, subst, inl, inr, ⊎_elim, arith}
+-- A walk back along a lane.
+use Rattle.std.proofs.Common.{◌≡◌, ℕ, zero, suc, ◌-◌, ◌<◌, ◌≤◌, true, ◌⊎◌, List, length, Some, None, Option, SomeIff, sym, refl, ap, ◌∙◌, subst, inl, inr, ⊎_elim, arith}
 use Rattle.standpoint.specs.declared.statement.Statement.{Statement}
 use Rattle.standpoint.specs.Algebra.{Algebra}
 use Rattle.saturation.specs.declared.row.Row.{Row}
-use Rattle.saturation.specs.declared.table.Table.{Table}
-use Rattle.saturation.specs.Classes.{class_of, class_at, LastOf, ClassLinks}
-use Rattle.saturation.specs.Tables.{State, row_at, statement_at, turn_at}
+use Rattle.saturation.specs.declared.lane.Lane.{Lane}
+use Rattle.saturation.specs.declared.lane.Lane.TheVariants.{Nowhere, Along, Outer, Inside}
+use Rattle.saturation.specs.declared.side.Key.{Key}
+use Rattle.saturation.specs.declared.side.Side.{Side}
+use Rattle.saturation.specs.Chains.{last_in, links_in}
+use Rattle.saturation.specs.Sides.{key_of, key_bucket, chain_of, settled_at, side_bucket, Sided}
+use Rattle.saturation.specs.Lanes.{Within, track, lane_bucket}
+use Rattle.saturation.specs.Tables.{State, statement_at, turn_at}
 use Rattle.saturation.specs.Offering.{Grown}
-use Rattle.saturation.specs.Searching.{Lists, Went, OfClass}
-use Rattle.saturation.proofs.Offers.{below_or, equal_or}
+use Rattle.saturation.specs.Searching.{Lists, Went, OnLane}
+use Rattle.saturation.proofs.Chaining.{Passed, On, none_past, past_link}
 use Rattle.saturation.proofs.Lists.{Fit, turn_kept, lists_grown}
 use Rattle.saturation.proofs.Stepping.{value_at}
 use Rattle.saturation.proofs.Searches.{Family, went_none, went_then, went_as}
 
-module _ {G : Type 0} (s : State G) (l : List (Statement × G)) (is : Lists s l) where
-  -- the class of a settled statement is that of its row's
-  pub class_listed : (c k : ℕ) → OfClass l c k → class_at s.rows k ≡ c
-  class_listed c k of =
-      let below = of.0 in
+-- what is on a lane is in its bucket
+pub tracked : (rows : List Row) (lane : Lane) (k : ℕ) → Within lane (settled_at rows k) → track rows lane k ≡ lane_bucket rows lane
+tracked rows Nowhere k within = absurd within
+tracked rows (Along side node) k within = ap (key_bucket (length rows)) within
+tracked rows (Outer standpoint) k within = refl
+tracked rows (Inside standpoint) k within = refl
+
+-- the link of a place on a lane
+pub link_along : (rows : List Row) (settled : ℕ) → Sided rows settled → (side : Side) (node : Key) (k : ℕ) → k < settled → side_bucket side rows k ≡ key_bucket (length rows) node →
+    links_in (chain_of side) rows k ≡ last_in (side_bucket side rows) (key_bucket (length rows) node) k
+link_along rows settled sides side node k h here = (sides side).back k h ∙ ap (λ (b : ℕ). last_in (side_bucket side rows) b k) here
+
+pub last_nowhere : (rows : List Row) (n : ℕ) → last_in (track rows Nowhere) 1 n ≡ None
+last_nowhere rows zero = refl
+last_nowhere rows (suc n) = last_nowhere rows n
+
+-- a walk along all settled places
+last_of_all : (n : ℕ) (r : Option ℕ) → SomeIff r (1 ≤ n) (n - 1) → r ≡ last_in (λ k. 0) 0 n
+last_of_all zero None e = refl
+last_of_all zero (Some i) e = absurd (let h = e.0 in let z : ⊥ = omega arith in z)
+last_of_all (suc n) None e = absurd (e (omega arith))
+last_of_all (suc n) (Some i) e = let same = e.1 in ap Some (omega (arith, same))
+
+pub last_by_number : (rows : List Row) (lane : Lane) (n : ℕ) (r : Option ℕ) → ((x : ℕ) × (lane ≡ Outer x)) ⊎ ((x : ℕ) × (lane ≡ Inside x)) → SomeIff r (1 ≤ n) (n - 1) →
+    r ≡ last_in (track rows lane) (lane_bucket rows lane) n
+last_by_number rows lane n r which e =
+    let at : (v : Lane) → lane ≡ v → r ≡ last_in (track rows v) (lane_bucket rows v) n → r ≡ last_in (track rows lane) (lane_bucket rows lane) n =
+    λ v is. subst (λ (w : Lane). r ≡ last_in (track rows w) (lane_bucket rows w) n) (sym is) in
+    ⊎_elim (λ w. at (Outer w.0) w.1 (last_of_all n r e)) (λ w. at (Inside w.0) w.1 (last_of_all n r e)) which
+
+module _ {G : Type 0} (s : State G) (l : List (Statement × G)) (is : Lists s l) (lane : Lane) (k : ℕ) where
+  -- what is listed on a lane is so in the rows
+  pub within_listed : OnLane lane l k → Within lane (settled_at s.rows k)
+  within_listed on =
       let long = is.long in
-      let w = value_at l k below in
-      ap class_of (is.holds k (omega arith) w.0).0 ∙ of.1 w.0
+      let below = on.0 in
+      let v = value_at l k below in
+      subst (Within lane) (sym (is.holds k (omega arith) v.0).0) (on.1 v.0)
 
-  pub listed_class : (k : ℕ) → k < s.settled → OfClass l (class_at s.rows k) k
-  listed_class k below = let long = is.long in (omega arith, λ d. ap class_of (sym (is.holds k below d).0))
+-- more rows leave the buckets of what is settled
+module _ {G : Type 0} (s t : State G) (fit : Fit s) (grown : Grown s t) where
+  track_grown : (lane : Lane) (k : ℕ) → k < s.settled → track t.rows lane k ≡ track s.rows lane k
+  track_grown Nowhere k h = refl
+  track_grown (Along side node) k h =
+      ap (λ (m : ℕ). key_bucket m (key_of side (settled_at t.rows k))) grown.rows_long
+      ∙ ap (λ (x : Statement). key_bucket (length s.rows) (key_of side x)) (ap (statement_at t) (turn_kept s t fit grown k h) ∙ grown.statements (turn_at s k) (fit.1 k h))
+  track_grown (Outer standpoint) k h = refl
+  track_grown (Inside standpoint) k h = refl
 
--- more rows leave the classes of what is settled
-class_grown : {G : Type 0} (s t : State G) → Fit s → Grown s t → (k : ℕ) → k < s.settled → class_at t.rows k ≡ class_at s.rows k
-class_grown s t fit g k h = ap (λ (j : ℕ). class_of (statement_at t j)) (turn_kept s t fit g k h) ∙ ap class_of (g.statements (turn_at s k) (fit.1 k h))
+  bucket_grown : (lane : Lane) → lane_bucket t.rows lane ≡ lane_bucket s.rows lane
+  bucket_grown Nowhere = refl
+  bucket_grown (Along side node) = ap (λ (m : ℕ). key_bucket m node) grown.rows_long
+  bucket_grown (Outer standpoint) = refl
+  bucket_grown (Inside standpoint) = refl
 
--- a place counted from 1 that is settled and of class c, or 0
-abbrev pub Reached : List Row → ℕ → ℕ → ℕ → Type 0
-Reached rows settled c h = (h ≤ settled) × ((k : ℕ) → k + 1 ≡ h → class_at rows k ≡ c)
+  pub on_grown : (lane : Lane) (k : ℕ) → k < s.settled → track s.rows lane k ≡ lane_bucket s.rows lane → (k < t.settled) × (track t.rows lane k ≡ lane_bucket t.rows lane)
+  on_grown lane k h here = let same = grown.settled in (omega arith, track_grown lane k h ∙ here ∙ sym (bucket_grown lane))
 
--- the last one settled of a class, as the table has it
-pub reach_last : {G : Type 0} (t : Table G) (k c : ℕ) → k ≡ c → c < 10 → LastOf (λ j. class_at t.rows.now j ≡ c) t.settled (slice_index t.latest k)
-reach_last t k c is few = subst (λ (m : ℕ). LastOf (λ j. class_at t.rows.now j ≡ c) t.settled (slice_index t.latest m)) (sym is) (t.class_links.latest_of c few)
+-- where a walk stands on a lane
+abbrev pub Standing : List Row → ℕ → Lane → Option ℕ → Type 0
+Standing rows settled lane at = On (track rows lane) (lane_bucket rows lane) settled at
 
--- what F gives at each settled one of class c, from the place h up
-abbrev pub From : {G : Type 0} → (ℕ → Family G) → ℕ → ℕ → Family G
-From F c h l o = (i : ℕ) × (h ≤ i) × OfClass l c i × F i l o
+-- what F gives at each place of a lane that the walk has passed
+abbrev pub From : {G : Type 0} → Lane → (ℕ → Family G) → Option ℕ → Family G
+From lane F at l o = (i : ℕ) × OnLane lane l i × Passed at i × F i l o
 
-module _ {G : Type 0} (al : Algebra G) (v : ℕ) (F : ℕ → Family G) (May : Family G) (c : ℕ) where
-  -- before the walk: none stands from the last one up
-  pub walk_start : (s : State G) (h : ℕ) → LastOf (λ k. class_at s.rows k ≡ c) s.settled h → Went al v s s (From F c h) May true
-  walk_start s h last = went_none al v s (From F c h) May (λ l is o b.
-      let below = b.2.0 in
+module _ {G : Type 0} (al : Algebra G) (v : ℕ) (lane : Lane) (F : ℕ → Family G) (May : Family G) where
+  -- before the walk: no place of the lane lies past the last one
+  pub walk_start : (s : State G) (at : Option ℕ) → at ≡ last_in (track s.rows lane) (lane_bucket s.rows lane) s.settled → Went al v s s (From lane F at) May true
+  walk_start s at last = went_none al v s (From lane F at) May (λ l is o b.
       let long = is.long in
-      last.none b.0 b.1 (omega arith) (class_listed s l is c b.0 b.2))
+      let below = b.1.0 in
+      none_past (track s.rows lane) (lane_bucket s.rows lane) s.settled at (sym last) b.0 (omega arith) (tracked s.rows lane b.0 (within_listed s l is lane b.0 b.1)) b.2)
 
-  -- one more: the walk goes on from what its row is linked to
-  pub walk_next : (s m u : State G) (latest : List ℕ) (i : ℕ) → Fit s → Fit m → ClassLinks u.rows latest u.settled → i < m.settled → class_at m.rows i ≡ c →
-      Went al v s m (From F c (i + 1)) May true → Went al v m u (F i) May true →
-      Reached u.rows u.settled c (row_at u i).earlier × Went al v s u (From F c (row_at u i).earlier) May true
-  walk_next s m u latest i fit fit_m links below at x y =
-      let h = (row_at u i).earlier in
-      let same_settled = y.grown.settled in
-      let last = links.earlier_of i (omega arith) in
-      let within = last.within in
-      let here : class_at u.rows i ≡ c = class_grown m u fit_m y.grown i below ∙ at in
-      let both = went_then al v s m u (From F c (i + 1)) (F i) May true true fit refl x y in (
-        (omega arith, λ k e. last.holds k e ∙ here),
-        went_as al v s u (λ l o. From F c (i + 1) l o ⊎ F i l o) (From F c h) May May true
-            (λ l is o b.
-            ⊎_elim
-            (λ lt. absurd (last.none b.0 b.1 lt (class_listed u l (lists_grown s u l fit both.grown is) c b.0 b.2 ∙ sym here)))
-            (λ ge. ⊎_elim
-            (λ e. inr (subst (λ (k : ℕ). F k l o) e b.3))
-            (λ ne. inl (b.0, omega arith, b.2, b.3))
-            (equal_or b.0 i))
-            (below_or b.0 i))
-            (λ l is o w. w)
-            both,
-      )
+  -- one place more: the walk goes on from where it is linked to
+  pub walk_next : (s m u : State G) (k : ℕ) (r : Option ℕ) → Fit s → r ≡ last_in (track u.rows lane) (lane_bucket u.rows lane) k →
+      Went al v s m (From lane F (Some k)) May true → Went al v m u (λ l o. OnLane lane l k × F k l o) May true → Went al v s u (From lane F r) May true
+  walk_next s m u k r fit link x y =
+      let both = went_then al v s m u (From lane F (Some k)) (λ l o. OnLane lane l k × F k l o) May true true fit refl x y in
+      went_as al v s u (λ l o. From lane F (Some k) l o ⊎ (OnLane lane l k × F k l o)) (From lane F r) May May true
+      (λ l is o b.
+      let here = tracked u.rows lane b.0 (within_listed u l (lists_grown s u l fit both.grown is) lane b.0 b.1) in
+      ⊎_elim
+      (λ over. inl (b.0, b.1, over, b.3))
+      (λ e. inr (subst (λ (j : ℕ). OnLane lane l j × F j l o) e (b.1, b.3)))
+      (past_link (track u.rows lane) (lane_bucket u.rows lane) k r link b.0 here b.2))
+      (λ l is o w. w)
+      both

@@ -1,9 +1,10 @@
 -- Buckets of rows: where a statement is looked for.
-use Rattle.std.specs.Prelude.{◌≡◌, ◌==◌, ℕ, zero, suc, ◌+◌, ◌*◌, ◌/◌, ◌%◌, ◌^◌, ◌<◌, cond, List, length, None, Some, Option, slice_index_or, slice_set}
+use Rattle.std.specs.Prelude.{ℕ, ◌+◌, ◌*◌, ◌/◌, ◌%◌, ◌^◌, List, length, slice_index_or, slice_set}
 use Rattle.standpoint.specs.declared.statement.Statement.{Statement}
 use Rattle.saturation.specs.declared.buckets.TheConstants.{SPREAD}
 use Rattle.saturation.specs.declared.row.Row.{Row}
-use Rattle.saturation.specs.Rows.{no_row}
+use Rattle.saturation.specs.Rows.{chain, no_row}
+use Rattle.saturation.specs.Chains.{RowsChained}
 
 -- one number more is mixed in
 unfoldable pub mixed : ℕ → ℕ → ℕ
@@ -17,21 +18,12 @@ bucket_of buckets x = mixed (mixed (mixed (mixed (mixed (mixed 0 x.shape) x.firs
 abbrev pub bucket_at : List Row → ℕ → ℕ
 bucket_at rows k = bucket_of (length rows) (slice_index_or rows k no_row).statement
 
--- of the first n rows the last in bucket b
-abbrev pub last_in : List Row → ℕ → ℕ → Option ℕ
-last_in rows b zero = None
-last_in rows b (suc n) = cond (bucket_at rows n == b) (Some n) (last_in rows b n)
-
--- where a bucket has a taken row, its head is the last one
-abbrev pub HeadsLast : List Row → ℕ → Type 0
-HeadsLast rows len = (b i : ℕ) → last_in rows b len ≡ Some i → (slice_index_or rows b no_row).head ≡ i
-
--- each taken row is linked to the last one before it in its bucket
-abbrev pub LinksBack : List Row → ℕ → Type 0
-LinksBack rows len = (k : ℕ) → k < len → (slice_index_or rows k no_row).link ≡ last_in rows (bucket_at rows k) k
+-- the taken rows are in chains, by statement
+abbrev pub Indexed : List Row → ℕ → Type 0
+Indexed rows len = RowsChained (λ r. r.index) (bucket_at rows) rows len
 
 abbrev pub headed : Row → ℕ → Row
-headed r k = record r { head = k }
+headed r k = record r { index = chain k r.index.link }
 
 -- row n is written, and is from then on the last in bucket b
 abbrev pub entered : List Row → ℕ → Row → ℕ → List Row

@@ -1,8 +1,10 @@
 pub mod Phases
 pub mod Rows
+pub mod Chains
 pub mod Buckets
+pub mod Sides
+pub mod Lanes
 pub mod Tables
-pub mod Classes
 pub mod Places
 pub mod Offering
 pub mod Searching

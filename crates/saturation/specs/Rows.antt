@@ -1,19 +1,32 @@
 -- Rows alone: what a table's ghost fields say of them.
 use Rattle.std.specs.Prelude.{◌≡◌, ℕ, ◌<◌, Bool, true, false, List, None, Option, slice_index_or}
-use Rattle.standpoint.specs.declared.statement.Statement.{Statement}
 use Rattle.standpoint.specs.Statements.{statement}
 use Rattle.saturation.specs.declared.row.Kept.{Kept}
+use Rattle.saturation.specs.declared.row.Chain.{Chain}
 use Rattle.saturation.specs.declared.row.Row.{Row}
 
 abbrev pub kept : ℕ → ℕ → ℕ → ℕ → Kept
 kept rule i j k = record { rule = rule; first = i; second = j; third = k }
 
-abbrev pub row : Statement → Kept → Option ℕ → ℕ → ℕ → Bool → ℕ → Option ℕ → Row
-row x step place turn earlier mark head link = record { statement = x; kept = step; place = place; turn = turn; earlier = earlier; mark = mark; head = head; link = link }
+abbrev pub chain : ℕ → Option ℕ → Chain
+chain head link = record { head = head; link = link }
+
+abbrev pub no_chain : Chain
+no_chain = chain 0 None
 
 -- what stands past the end of the rows
 abbrev pub no_row : Row
-no_row = row (statement 0 0 0 0 0 0) (kept 0 0 0 0) None 0 0 false 0 None
+no_row = record {
+  statement = statement 0 0 0 0 0 0;
+  kept = kept 0 0 0 0;
+  place = None;
+  turn = 0;
+  mark = false;
+  index = no_chain;
+  source = no_chain;
+  target = no_chain;
+  inner = no_chain;
+}
 
 -- each turn so far settled a taken row
 abbrev pub TurnsWithin : List Row → ℕ → ℕ → Type 0

@@ -1,14 +1,14 @@
 -- What a search offers.
-use Rattle.std.specs.Prelude.{◌≡◌, ◌==◌, ◌&&◌, ◌||◌, cond, ℕ, ◌<◌, ◌≤◌, Bool, true, false, ◌⊎◌, List, [], ◌∷◌, ◌++◌, length, Some, slice_index_or}
+use Rattle.std.specs.Prelude.{◌≡◌, ◌==◌, cond, ℕ, ◌<◌, ◌≤◌, Bool, true, false, ◌⊎◌, List, [], ◌∷◌, ◌++◌, length, Some, slice_index_or}
 use Rattle.standpoint.specs.declared.statement.Statement.{Statement}
 use Rattle.standpoint.specs.Lists.{In}
 use Rattle.standpoint.specs.Algebra.{Algebra}
-use Rattle.standpoint.specs.Rules.{Rule}
 use Rattle.standpoint.specs.Derivations.{Base}
 use Rattle.saturation.specs.declared.places.Position.{Position}
 use Rattle.saturation.specs.declared.places.Position.TheVariants.{First, Second, Third}
 use Rattle.saturation.specs.Tables.{State, row_at, statement_at, turn_at, OpenAt, Absent, has_room}
-use Rattle.saturation.specs.Classes.{class_of, second_class, third_class}
+use Rattle.saturation.specs.declared.lane.Lane.{Lane}
+use Rattle.saturation.specs.Lanes.{Within}
 use Rattle.saturation.specs.Places.{Step}
 use Rattle.saturation.specs.Offering.{Apart, BestOf, Grown, RowsRight}
 
@@ -60,75 +60,42 @@ pub record Went {G : Type 0} (a : Algebra G) (individuals : ℕ) (s t : State G)
   pub stuck : r ≡ false → (settled : List (Statement × G)) → Lists s settled → Stuck t (May settled)
   pub keeps : (base : Base G) → base.sizes.individuals ≡ individuals → (settled : List (Statement × G)) → Lists s settled → RowsRight a base settled s → RowsRight a base settled t
 
--- the rule gives nothing from these premises
-abbrev pub GivesNothing : ℕ → List Statement → Type 0
-GivesNothing rule premises = (individuals : ℕ) (x : Statement) → Rule individuals rule premises x → ⊥
+-- the one at k is settled, and on a lane
+abbrev pub OnLane : {G : Type 0} → Lane → List (Statement × G) → ℕ → Type 0
+OnLane {G} lane settled k = (k < length settled) × ((d : Statement × G) → Within lane (slice_index_or settled k d).0)
 
--- two premises pass a quick test of a rule with two, which those of the rule always pass: shapes that it asks for, and the name that links them
-abbrev pub linked : ℕ → Statement → Statement → Bool
-linked rule p q =
-    cond (rule == 1) (p.shape == 8 && (q.shape == 8 && p.third == q.second))
-    (cond (rule == 2) (p.shape == 1 && (q.shape == 1 && p.second == q.first))
-    (cond (rule == 4) (q.shape == 1 && p.first == q.second)
-    (cond (rule == 5) (q.shape == 1 && p.third == q.second)
-    (cond (rule == 6) (p.shape == 3 && (q.shape == 3 && p.fifth == q.fourth))
-    (cond (rule == 7 || rule == 10) (p.shape == 3 && (q.shape == 3 && p.fifth == q.second))
-    (cond (rule == 8 || rule == 11) (p.shape == 3 && (q.shape == 4 && p.fifth == q.second))
-    (cond (rule == 9) (p.shape == 4 && (q.shape == 3 && p.second == q.second))
-    (cond (rule == 12) (p.shape == 4 && (q.shape == 3 && p.fourth == q.second))
-    (cond (rule == 13) (p.shape == 4 && (q.shape == 4 && p.fourth == q.second))
-    (cond (rule == 16) (p.shape == 5 && (q.shape == 6 && p.fourth == q.third))
-    false))))))))))
+-- n stands at this position among some places
+abbrev pub At : Position → List ℕ → ℕ → Type 0
+At First [] n = ⊥
+At First (i ∷ ks) n = i ≡ n
+At Second [] n = ⊥
+At Second (i ∷ []) n = ⊥
+At Second (i ∷ j ∷ ks) n = j ≡ n
+At Third [] n = ⊥
+At Third (i ∷ []) n = ⊥
+At Third (i ∷ j ∷ []) n = ⊥
+At Third (i ∷ j ∷ k ∷ ks) n = k ≡ n
 
--- the same of three, by the names alone
-abbrev pub all_linked : ℕ → Statement → Statement → Statement → Bool
-all_linked rule p q r =
-    cond (rule == 3) (p.second == r.first && q.second == r.second)
-    (cond (rule == 14) (p.fourth == q.fourth && p.third == r.second)
-    (cond (rule == 15) (p.third == r.second && q.third == r.third)
-    (cond (rule == 17) (p.fifth == r.second && q.fifth == r.third)
-    false)))
+-- all that a rule gives with n at this position
+abbrev pub Beside : {G : Type 0} → Algebra G → ℕ → ℕ → Position → ℕ → List (Statement × G) → Statement × G → Type 0
+Beside a individuals rule position n settled o = (places : List ℕ) × At position places n × Step a individuals settled rule places o
 
--- what is to be offered around the newest n and one other premise i, by a rule with two
-abbrev pub Pair : {G : Type 0} → Algebra G → ℕ → ℕ → ℕ → ℕ → List (Statement × G) → Statement × G → Type 0
-Pair a individuals rule n i settled o = Step a individuals settled rule (n ∷ i ∷ []) o ⊎ Step a individuals settled rule (i ∷ n ∷ []) o
+-- two, n at this position
+abbrev pub paired : {X : Type 0} → Position → X → X → List X
+paired First n i = n ∷ i ∷ []
+paired Second n i = i ∷ n ∷ []
+paired Third n i = i ∷ n ∷ []
 
--- three, n at this position, and i before j
-abbrev pub arranged : {X : Type 0} → Position → X → X → X → List X
-arranged First n i j = n ∷ i ∷ j ∷ []
-arranged Second n i j = i ∷ n ∷ j ∷ []
-arranged Third n i j = i ∷ j ∷ n ∷ []
+-- three, n at this position: i is its partner by the rule, and j the last
+abbrev pub arranged : {X : Type 0} → ℕ → Position → X → X → X → List X
+arranged rule First n i j = n ∷ j ∷ i ∷ []
+arranged rule Second n i j = cond (rule == 14) (i ∷ n ∷ j ∷ []) (j ∷ n ∷ i ∷ [])
+arranged rule Third n i j = i ∷ j ∷ n ∷ []
 
--- the class of the one at j, where three are arranged so
-abbrev pub left_class : ℕ → Position → ℕ
-left_class rule First = third_class rule
-left_class rule Second = third_class rule
-left_class rule Third = second_class rule
+-- what a rule gives with n at this position, its partner i, and some last one
+abbrev pub Lasts : {G : Type 0} → Algebra G → ℕ → ℕ → Position → ℕ → ℕ → List (Statement × G) → Statement × G → Type 0
+Lasts a individuals rule position n i settled o = (j : ℕ) × (j < length settled) × Step a individuals settled rule (arranged rule position n i j) o
 
--- no conclusion with x at this position, and y and some third at the others
-abbrev pub NeverGoes : ℕ → Position → Statement → Statement → Type 0
-NeverGoes rule position x y = (individuals : ℕ) (z c : Statement) → Rule individuals rule (arranged position x y z) c → ⊥
-
--- what a rule gives with n at this position, and i and some j below m at the others
-abbrev pub Triples : {G : Type 0} → Algebra G → ℕ → ℕ → Position → ℕ → ℕ → ℕ → List (Statement × G) → Statement × G → Type 0
-Triples a individuals rule position n i m settled o = (j : ℕ) × (j < m) × Step a individuals settled rule (arranged position n i j) o
-
--- the same with n at any position
-abbrev pub AllTriples : {G : Type 0} → Algebra G → ℕ → ℕ → ℕ → ℕ → List (Statement × G) → Statement × G → Type 0
-AllTriples a individuals rule n i settled o =
-    (Triples a individuals rule First n i (length settled) settled o ⊎ Triples a individuals rule Second n i (length settled) settled o)
-    ⊎ Triples a individuals rule Third n i (length settled) settled o
-
--- all that a rule gives around n and i
-pub data Around {G : Type 0} (a : Algebra G) (individuals rule n i : ℕ) (settled : List (Statement × G)) (o : Statement × G) : Type 0 where
-  around_one : i ≡ n → Step a individuals settled rule (n ∷ []) o → Around a individuals rule n i settled o
-  around_two : Pair a individuals rule n i settled o → Around a individuals rule n i settled o
-  around_three : AllTriples a individuals rule n i settled o → Around a individuals rule n i settled o
-
--- the one at i is settled, and of class c
-abbrev pub OfClass : {G : Type 0} → List (Statement × G) → ℕ → ℕ → Type 0
-OfClass {G} settled c i = (i < length settled) × ((d : Statement × G) → class_of (slice_index_or settled i d).0 ≡ c)
-
--- all that a rule gives around n and each of class c
-abbrev pub BesideClass : {G : Type 0} → Algebra G → ℕ → ℕ → ℕ → ℕ → List (Statement × G) → Statement × G → Type 0
-BesideClass a individuals rule n c settled o = (i : ℕ) × OfClass settled c i × Around a individuals rule n i settled o
+-- the same, or without a last one
+abbrev pub Around : {G : Type 0} → Algebra G → ℕ → ℕ → Position → ℕ → ℕ → List (Statement × G) → Statement × G → Type 0
+Around a individuals rule position n i settled o = Step a individuals settled rule (paired position n i) o ⊎ Lasts a individuals rule position n i settled o

@@ -4,8 +4,13 @@ use Rattle.standpoint.specs.declared.statement.Statement.{Statement}
 use Rattle.saturation.specs.declared.row.Kept.{Kept}
 use Rattle.saturation.specs.declared.row.Row.{Row}
 use Rattle.saturation.specs.declared.table.Table.{Table}
-use Rattle.saturation.specs.Rows.{row, no_row}
-use Rattle.saturation.specs.Buckets.{bucket_of, last_in, entered}
+use Rattle.saturation.specs.Rows.{chain, no_row}
+use Rattle.saturation.specs.Chains.{last_in}
+use Rattle.saturation.specs.Buckets.{bucket_of, bucket_at, entered}
+use Rattle.saturation.specs.declared.side.Spot.{Spot}
+use Rattle.saturation.specs.declared.side.Side.{Side}
+use Rattle.saturation.specs.declared.side.Side.TheVariants.{Source, Target, Inner}
+use Rattle.saturation.specs.Sides.{key_of, spot_of, settled_rows}
 
 -- the rows, the grades beside them, and how many are taken and settled
 pub record State (G : Type 0) : Type 0 where
@@ -64,9 +69,12 @@ Found s x r = RowOf s.rows s.len x r
 abbrev pub with_row : {G : Type 0} → State G → ℕ → Row → State G
 with_row s k r = record { rows = slice_set s.rows k r; grades = s.grades; len = s.len; settled = s.settled }
 
--- the next row, linked to the last of its bucket
+-- the next row for x, linked to the last of its bucket
+abbrev pub taken : List Row → ℕ → Statement → Kept → Option ℕ → Row
+taken rows n x step link = record (slice_index_or rows n no_row) { statement = x; kept = step; place = None; mark = false; index = chain (slice_index_or rows n no_row).index.head link }
+
 abbrev pub taken_row : {G : Type 0} → State G → Statement → Kept → Row
-taken_row s x step = row x step None 0 0 false (row_at s s.len).head (last_in s.rows (bucket_of (length s.rows) x) s.len)
+taken_row s x step = taken s.rows s.len x step (last_in (bucket_at s.rows) (bucket_of (length s.rows) x) s.len)
 
 -- one row and its grade more
 abbrev pub pushed : {G : Type 0} → State G → Row → G → State G
@@ -79,24 +87,18 @@ rekept r k = record r { kept = k }
 abbrev pub improved : {G : Type 0} → State G → ℕ → G → Kept → State G
 improved s i g k = record { rows = slice_set s.rows i (rekept (row_at s i) k); grades = slice_set s.grades i g; len = s.len; settled = s.settled }
 
-abbrev pub turned : Row → ℕ → ℕ → Row
-turned r i h = record r { turn = i; earlier = h }
+-- where row i goes in the chains of a side
+abbrev pub spot_at : {G : Type 0} → Side → State G → ℕ → Spot
+spot_at side s i = spot_of side s.rows s.settled (key_of side (statement_at s i))
 
-abbrev pub placed : Row → ℕ → Row
-placed r p = record r { place = Some p }
-
-abbrev pub with_turn : {G : Type 0} → State G → ℕ → ℕ → ℕ → State G
-with_turn s k i h = with_row s k (turned (row_at s k) i h)
-
-abbrev pub with_place : {G : Type 0} → State G → ℕ → ℕ → State G
-with_place s i p = with_row s i (placed (row_at s i) p)
-
-abbrev pub one_more : {G : Type 0} → State G → State G
-one_more s = record { rows = s.rows; grades = s.grades; len = s.len; settled = s.settled + 1 }
-
--- row i is settled in the next turn, and linked to the place h
-abbrev pub settled_row : {G : Type 0} → State G → ℕ → ℕ → State G
-settled_row s i h = one_more (with_place (with_turn s s.settled i h) i s.settled)
+-- row i is settled in the next turn
+abbrev pub settled_row : {G : Type 0} → State G → ℕ → State G
+settled_row s i = record {
+  rows = settled_rows s.rows s.settled i (spot_at Source s i) (spot_at Target s i) (spot_at Inner s i);
+  grades = s.grades;
+  len = s.len;
+  settled = s.settled + 1;
+}
 
 -- no row is taken
 abbrev pub fresh : {G : Type 0} → List Row → List G → State G

@@ -1,6 +1,7 @@
 // The index inside the rows: there are as many buckets as rows, and a statement is looked for in its own.
 ghost use Rattle.std.specs.Prelude.{◌≡◌, ◌<◌, length};
-ghost use Rattle.saturation.specs.Buckets.{mixed, bucket_of, last_in, entered};
+ghost use Rattle.saturation.specs.Chains.{last_in};
+ghost use Rattle.saturation.specs.Buckets.{mixed, bucket_of, bucket_at, entered};
 
 use crate::row::Row;
 use crate::table::Table;
@@ -10,7 +11,7 @@ use standpoint::Statement;
 const SPREAD: u64 = 0x9E37_79B9_7F4A_7C15;
 
 // One number more is mixed in.
-fn mixed(hash: u64, number: u16) -> u64
+pub(crate) fn mixed(hash: u64, number: u16) -> u64
     ensures { result ≡ mixed hash number }
 {
     hash.wrapping_add(u64::from(number)).wrapping_mul(SPREAD)
@@ -37,7 +38,7 @@ pub(crate) fn enter(rows: &mut [Row], at: usize, row: Row, bucket: usize)
     ensures { rows.new ≡ entered rows.old at row bucket }
 {
     rows[at] = row;
-    rows[bucket].head = at;
+    rows[bucket].index.head = at;
 }
 
 impl<'a, G: Copy> Table<'a, G> {
@@ -45,9 +46,9 @@ impl<'a, G: Copy> Table<'a, G> {
     // need not be cleared first.
     pub(crate) fn last_in(&self, bucket: usize) -> Option<usize>
         requires { bucket < length self.now.rows.now }
-        ensures { result ≡ last_in self.now.rows.now bucket self.now.len }
+        ensures { result ≡ last_in (bucket_at self.now.rows.now) bucket self.now.len }
     {
-        let head = self.rows[bucket].head;
+        let head = self.rows[bucket].index.head;
         if head < self.len && bucket_of(self.rows[head].statement, self.rows.len()) == bucket {
             Some(head)
         } else {

@@ -3,7 +3,7 @@
 
 pub use phase::Phase;
 pub use places::{Places, Position};
-pub use row::{Kept, Row};
+pub use row::{Chain, Kept, Row};
 pub use rows::NoRow;
 pub use table::Table;
 pub use turn::Turn;
@@ -11,7 +11,7 @@ pub use turn::Turn;
 mod attempt;
 mod buckets;
 mod choose;
-mod class;
+mod lane;
 mod memory;
 mod offer;
 mod phase;
@@ -20,5 +20,6 @@ mod row;
 mod rows;
 mod run;
 mod search;
+mod side;
 mod table;
 mod turn;

@@ -5,7 +5,6 @@ ghost use Rattle.saturation.specs.declared.phase.Phase.TheVariants.{Idle, Taking
 ghost use Rattle.saturation.specs.Phases.{is_begun, sizes_of, sealed_phase};
 ghost use Rattle.saturation.specs.Tables.{view, fresh, capacity, OverSame};
 
-use crate::class::CLASSES;
 use crate::phase::Phase;
 use crate::row::Row;
 use crate::rows::MOST_ROWS;
@@ -24,7 +23,6 @@ impl<'a, G: Copy> Table<'a, G> {
             grades,
             len: 0,
             settled: 0,
-            latest: [0; CLASSES],
             phase: Phase::Idle,
         }
     }
@@ -53,7 +51,6 @@ impl<'a, G: Copy> Table<'a, G> {
         ensures phase { self.new.phase ≡ Taking sizes }
     {
         self.settled = 0;
-        self.latest = [0; CLASSES];
         self.len = 0;
         self.phase = Phase::Taking(sizes);
     }

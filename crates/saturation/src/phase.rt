@@ -1,6 +1,7 @@
 // How far a table is.
 use standpoint::Sizes;
 
+// Whether a run is begun, and with which sizes.
 #[derive(Clone, Copy)]
 pub enum Phase {
     // No run is begun.

@@ -1,10 +1,9 @@
 // Places of premises.
 ghost use Rattle.std.specs.Prelude.{◌≡◌};
 ghost use Rattle.saturation.specs.Places.{listed_places, kept_of};
-ghost use Rattle.saturation.specs.Searching.{SettledPlaces, arranged, left_class};
+ghost use Rattle.saturation.specs.Searching.{SettledPlaces, paired, arranged};
 ghost use Rattle.standpoint.specs.RuleNumbers.{number_of_rule};
 
-use crate::class::{second_class, third_class};
 use crate::row::Kept;
 use standpoint::Rule;
 
@@ -46,23 +45,26 @@ impl Places {
 }
 
 impl Position {
-    // The class of the last of three places that are arranged so.
-    pub(crate) fn left_class(self, rule: Rule) -> usize
-        ensures { result ≡ left_class (number_of_rule rule) self }
+    pub(crate) const ALL: [Position; 3] = [Position::First, Position::Second, Position::Third];
+
+    // Two places, the newest at this position.
+    pub(crate) fn pair(self, newest: usize, i: usize) -> Places
+        ensures { listed_places result ≡ paired self newest i }
     {
         match self {
-            Position::First | Position::Second => third_class(rule),
-            Position::Third => second_class(rule),
+            Position::First => Places::Two(newest, i),
+            _ => Places::Two(i, newest),
         }
     }
 
-    // Three places, the newest at this position, and i before j.
-    pub(crate) fn arrange(self, newest: usize, i: usize, j: usize) -> Places
-        ensures { listed_places result ≡ arranged self newest i j }
+    // Three places, the newest at this position: i is its partner by the rule, and j the last.
+    pub(crate) fn arrange(self, rule: Rule, newest: usize, i: usize, j: usize) -> Places
+        ensures { listed_places result ≡ arranged (number_of_rule rule) self newest i j }
     {
         match self {
-            Position::First => Places::Three(newest, i, j),
-            Position::Second => Places::Three(i, newest, j),
+            Position::First => Places::Three(newest, j, i),
+            Position::Second if rule == Rule::ExistentialWidened => Places::Three(i, newest, j),
+            Position::Second => Places::Three(j, newest, i),
             Position::Third => Places::Three(i, j, newest),
         }
     }

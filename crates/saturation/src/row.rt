@@ -13,6 +13,7 @@ pub struct Kept {
 }
 
 impl Kept {
+    // The step of an accepted statement.
     pub const ACCEPTED: Kept = Kept {
         rule: ACCEPTED,
         first: 0,
@@ -20,11 +21,28 @@ impl Kept {
         third: 0,
     };
 
+    // The step of a tautology.
     pub const TAUTOLOGY: Kept = Kept {
         rule: TAUTOLOGY,
         first: 0,
         second: 0,
         third: 0,
+    };
+}
+
+// Chains of places, two columns of the rows: each bucket names its last place, and each place the one before it in its bucket.
+#[derive(Clone, Copy)]
+pub struct Chain {
+    // In the b-th row, from 0, the last place in bucket b; where there is none, whatever the memory held.
+    pub head: usize,
+    // In the k-th row, from 0, the last place before the k-th in its bucket.
+    pub link: Option<usize>,
+}
+
+impl Chain {
+    pub const EMPTY: Chain = Chain {
+        head: 0,
+        link: None,
     };
 }
 
@@ -37,14 +55,14 @@ pub struct Row {
     pub place: Option<usize>,
     // A column of its own, since no memory but the lent rows is at hand: in the k-th row, from 0, the row that was settled k-th.
     pub turn: usize,
-    // A column of its own: in the k-th row the settling place, from 1, of the last of its class settled before the k-th; 0 is none.
-    pub earlier: usize,
     // A column of its own: stands only while steps are written out.
     pub mark: bool,
-    // A column of its own: in the b-th row, from 0, the last taken row of bucket b; where there is none, whatever the memory held.
-    pub head: usize,
-    // The last row before this one in the same bucket.
-    pub link: Option<usize>,
+    // The taken rows, by statement.
+    pub index: Chain,
+    // The settled statements, by settling place, each by its node on that side.
+    pub source: Chain,
+    pub target: Chain,
+    pub inner: Chain,
 }
 
 impl Row {
@@ -54,9 +72,10 @@ impl Row {
         kept: Kept::ACCEPTED,
         place: None,
         turn: 0,
-        earlier: 0,
         mark: false,
-        head: 0,
-        link: None,
+        index: Chain::EMPTY,
+        source: Chain::EMPTY,
+        target: Chain::EMPTY,
+        inner: Chain::EMPTY,
     };
 }

@@ -4,7 +4,7 @@ ghost use Rattle.saturation.specs.Tables.{view, Same, Found, has_room, pushed, t
 ghost use Rattle.saturation.specs.Searching.{Premise};
 
 use crate::buckets::{bucket_of, enter};
-use crate::row::{Kept, Row};
+use crate::row::{Chain, Kept, Row};
 use crate::table::Table;
 use standpoint::Statement;
 
@@ -29,7 +29,7 @@ impl<'a, G: Copy> Table<'a, G> {
             if row.statement == statement {
                 return Some(k);
             }
-            at = row.link;
+            at = row.index.link;
         }
         None
     }
@@ -45,15 +45,17 @@ impl<'a, G: Copy> Table<'a, G> {
             return Err(NoRow);
         }
         let bucket = bucket_of(statement, self.rows.len());
+        let free = self.rows[at];
         let row = Row {
             statement,
             kept,
             place: None,
-            turn: 0,
-            earlier: 0,
             mark: false,
-            head: self.rows[at].head,
-            link: self.last_in(bucket),
+            index: Chain {
+                head: free.index.head,
+                link: self.last_in(bucket),
+            },
+            ..free
         };
         self.grades[at] = grade;
         enter(self.rows, at, row, bucket);

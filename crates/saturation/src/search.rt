@@ -1,52 +1,23 @@
 // The search for what follows from the newest settled statement.
-ghost use Rattle.std.specs.Prelude.{◌≡◌, ◌≢◌, ◌<◌, false, is_ok, length};
+ghost use Rattle.std.specs.Prelude.{◌≡◌, ◌≢◌, ◌<◌, is_ok};
 ghost use Rattle.standpoint.specs.RuleNumbers.{number_of_rule};
 ghost use Rattle.standpoint.specs.Rules.{arity_of};
 ghost use Rattle.saturation.specs.Tables.{view, Same, statement_at, turn_at};
 ghost use Rattle.saturation.specs.Places.{Uses};
-ghost use Rattle.saturation.specs.Searching.{NeverGoes, Went, Pair, Triples, AllTriples, Around, BesideClass};
+ghost use Rattle.saturation.specs.Searching.{OnLane, Went, Lasts, Around, Beside};
 
 use crate::attempt::Inference;
-use crate::class::{CLASSES, class_of, together};
+use crate::lane::{Lane, last_lane, partners};
 use crate::places::{Places, Position};
 use crate::rows::NoRow;
 use crate::table::Table;
-use standpoint::{Beside, Kind, Rule};
+use standpoint::{Kind, Rule};
 
 // Each call says anew that the newest and i are settled: they are places in this very table, and no value beside it keeps them
 // in range.
 impl<'a, G: Copy> Table<'a, G> {
-    // What a rule with two premises gives from the newest and the one settled at i.
-    fn pair<K: Kind<Grade = G>>(
-        &mut self,
-        inference: &Inference<'_, K>,
-        newest: usize,
-        i: usize,
-    ) -> Result<(), NoRow>
-        requires { (newest < self.old.settled) × (i < self.old.settled) }
-        ensures same { Same self.old self.new }
-        ensures state { Went (K.Kind.algebra inference.now.kind.now) inference.now.individuals (view self.old) (view self.new) (Pair (K.Kind.algebra inference.now.kind.now) inference.now.individuals (number_of_rule inference.now.rule) newest i) (λ l. Uses (K.Kind.algebra inference.now.kind.now) inference.now.individuals l newest) (is_ok result) }
-    {
-        self.attempt(inference, Places::Two(newest, i))?;
-        self.attempt(inference, Places::Two(i, newest))
-    }
-
-    // Whether the newest at its position and the one settled at i can go with any third at all.
-    fn may_go(&self, rule: Rule, position: Position, newest: usize, i: usize) -> bool
-        requires { (newest < self.now.settled) × (i < self.now.settled) }
-        ensures { result ≡ false → NeverGoes (number_of_rule rule) position (statement_at (view self.now) (turn_at (view self.now) newest)) (statement_at (view self.now) (turn_at (view self.now) i)) }
-    {
-        let x = self.settled_statement(newest);
-        let y = self.settled_statement(i);
-        match position {
-            Position::First => rule.may_meet(x, Beside::Second, y),
-            Position::Second => rule.may_meet(y, Beside::Second, x),
-            Position::Third => rule.may_meet(y, Beside::Third, x),
-        }
-    }
-
-    // What a rule with three premises gives with the newest at this position, the one settled at i, and any third.
-    fn triples<K: Kind<Grade = G>>(
+    // What a rule with three premises gives with the newest at this position, the one settled at i as its partner, and any last.
+    fn lasts<K: Kind<Grade = G>>(
         &mut self,
         inference: &Inference<'_, K>,
         position: Position,
@@ -55,97 +26,81 @@ impl<'a, G: Copy> Table<'a, G> {
     ) -> Result<(), NoRow>
         requires { (newest < self.old.settled) × (i < self.old.settled) }
         ensures same { Same self.old self.new }
-        ensures state { Went (K.Kind.algebra inference.now.kind.now) inference.now.individuals (view self.old) (view self.new) (λ l. Triples (K.Kind.algebra inference.now.kind.now) inference.now.individuals (number_of_rule inference.now.rule) position newest i (length l) l) (λ l. Uses (K.Kind.algebra inference.now.kind.now) inference.now.individuals l newest) (is_ok result) }
+        ensures state { Went (K.Kind.algebra inference.now.kind.now) inference.now.individuals (view self.old) (view self.new) (Lasts (K.Kind.algebra inference.now.kind.now) inference.now.individuals (number_of_rule inference.now.rule) position newest i) (λ l. Uses (K.Kind.algebra inference.now.kind.now) inference.now.individuals l newest) (is_ok result) }
     {
-        if !self.may_go(inference.rule, position, newest, i) {
-            return Ok(());
-        }
-        let mut place = self.latest[position.left_class(inference.rule)];
-        while place > 0 {
-            let j = place - 1;
-            self.attempt(inference, position.arrange(newest, i, j))?;
-            place = self.rows[j].earlier;
+        let x = self.settled_statement(newest);
+        let y = self.settled_statement(i);
+        let lane = last_lane(inference.rule, position, x, y);
+        let mut at = self.last_along(lane);
+        while let Some(j) = at {
+            let places = position.arrange(inference.rule, newest, i, j);
+            self.attempt_along(inference, lane, j, places)?;
+            at = self.next_along(lane, j);
         }
         Ok(())
     }
 
-    // The same with the newest at each position.
-    fn all_triples<K: Kind<Grade = G>>(
-        &mut self,
-        inference: &Inference<'_, K>,
-        newest: usize,
-        i: usize,
-    ) -> Result<(), NoRow>
-        requires { (newest < self.old.settled) × (i < self.old.settled) }
-        ensures same { Same self.old self.new }
-        ensures state { Went (K.Kind.algebra inference.now.kind.now) inference.now.individuals (view self.old) (view self.new) (AllTriples (K.Kind.algebra inference.now.kind.now) inference.now.individuals (number_of_rule inference.now.rule) newest i) (λ l. Uses (K.Kind.algebra inference.now.kind.now) inference.now.individuals l newest) (is_ok result) }
-    {
-        self.triples(inference, Position::First, newest, i)?;
-        self.triples(inference, Position::Second, newest, i)?;
-        self.triples(inference, Position::Third, newest, i)
-    }
-
-    // All that a rule with several premises gives from the newest, the one settled at i, and any third.
+    // What a rule with several premises gives with the newest at this position and the one settled at i as its partner, if that is
+    // on this lane.
     fn around<K: Kind<Grade = G>>(
         &mut self,
         inference: &Inference<'_, K>,
+        position: Position,
         newest: usize,
+        lane: Lane,
         i: usize,
     ) -> Result<(), NoRow>
         requires { (newest < self.old.settled) × (i < self.old.settled) × (arity_of (number_of_rule inference.now.rule) ≢ 1) }
         ensures same { Same self.old self.new }
-        ensures state { Went (K.Kind.algebra inference.now.kind.now) inference.now.individuals (view self.old) (view self.new) (Around (K.Kind.algebra inference.now.kind.now) inference.now.individuals (number_of_rule inference.now.rule) newest i) (λ l. Uses (K.Kind.algebra inference.now.kind.now) inference.now.individuals l newest) (is_ok result) }
+        ensures state { Went (K.Kind.algebra inference.now.kind.now) inference.now.individuals (view self.old) (view self.new) (λ l o. OnLane lane l i × Around (K.Kind.algebra inference.now.kind.now) inference.now.individuals (number_of_rule inference.now.rule) position newest i l o) (λ l. Uses (K.Kind.algebra inference.now.kind.now) inference.now.individuals l newest) (is_ok result) }
     {
         if inference.rule.arity() == 2 {
-            self.pair(inference, newest, i)
-        } else {
-            self.all_triples(inference, newest, i)
+            return self.attempt_along(inference, lane, i, position.pair(newest, i));
         }
+        if !self.is_along(lane, i) {
+            return Ok(());
+        }
+        self.lasts(inference, position, newest, i)
     }
 
-    // The same with each one settled of this class, from the last back.
+    // The same with every partner.
     fn along<K: Kind<Grade = G>>(
         &mut self,
         inference: &Inference<'_, K>,
+        position: Position,
         newest: usize,
-        class: usize,
     ) -> Result<(), NoRow>
-        requires { (newest < self.old.settled) × (class < 10) × (arity_of (number_of_rule inference.now.rule) ≢ 1) }
+        requires { (newest < self.old.settled) × (arity_of (number_of_rule inference.now.rule) ≢ 1) }
         ensures same { Same self.old self.new }
-        ensures state { Went (K.Kind.algebra inference.now.kind.now) inference.now.individuals (view self.old) (view self.new) (BesideClass (K.Kind.algebra inference.now.kind.now) inference.now.individuals (number_of_rule inference.now.rule) newest class) (λ l. Uses (K.Kind.algebra inference.now.kind.now) inference.now.individuals l newest) (is_ok result) }
+        ensures state { Went (K.Kind.algebra inference.now.kind.now) inference.now.individuals (view self.old) (view self.new) (Beside (K.Kind.algebra inference.now.kind.now) inference.now.individuals (number_of_rule inference.now.rule) position newest) (λ l. Uses (K.Kind.algebra inference.now.kind.now) inference.now.individuals l newest) (is_ok result) }
     {
-        let mut place = self.latest[class];
-        while place > 0 {
-            let i = place - 1;
-            self.around(inference, newest, i)?;
-            place = self.rows[i].earlier;
+        let lane = partners(inference.rule, position, self.settled_statement(newest));
+        let mut at = self.last_along(lane);
+        while let Some(i) = at {
+            self.around(inference, position, newest, lane, i)?;
+            at = self.next_along(lane, i);
         }
         Ok(())
     }
 
-    // All that the rule gives from the newest, each one settled of this class, and any third: the newest alone, where the rule has
-    // one premise.
+    // All that a rule gives with the newest at this position.
     fn beside<K: Kind<Grade = G>>(
         &mut self,
         inference: &Inference<'_, K>,
+        position: Position,
         newest: usize,
-        class: usize,
     ) -> Result<(), NoRow>
-        requires { (newest < self.old.settled) × (class < 10) }
+        requires { newest < self.old.settled }
         ensures same { Same self.old self.new }
-        ensures state { Went (K.Kind.algebra inference.now.kind.now) inference.now.individuals (view self.old) (view self.new) (BesideClass (K.Kind.algebra inference.now.kind.now) inference.now.individuals (number_of_rule inference.now.rule) newest class) (λ l. Uses (K.Kind.algebra inference.now.kind.now) inference.now.individuals l newest) (is_ok result) }
+        ensures state { Went (K.Kind.algebra inference.now.kind.now) inference.now.individuals (view self.old) (view self.new) (Beside (K.Kind.algebra inference.now.kind.now) inference.now.individuals (number_of_rule inference.now.rule) position newest) (λ l. Uses (K.Kind.algebra inference.now.kind.now) inference.now.individuals l newest) (is_ok result) }
     {
-        let own = class_of(self.settled_statement(newest));
-        if inference.rule.arity() == 1 {
-            if class != own {
-                return Ok(());
-            }
-            return self.attempt(inference, Places::One(newest));
+        if inference.rule.arity() != 1 {
+            return self.along(inference, position, newest);
         }
-        if !together(inference.rule, own, class) {
-            return Ok(());
+        match position {
+            Position::First => self.attempt(inference, Places::One(newest)),
+            Position::Second | Position::Third => Ok(()),
         }
-        self.along(inference, newest, class)
     }
 
     // Offers all that follows by one rule from settled statements, the newest among them; the first that finds no row ends it.
@@ -167,8 +122,8 @@ impl<'a, G: Copy> Table<'a, G> {
                 individuals,
                 rule,
             };
-            for class in 0..CLASSES {
-                outcome = self.beside(&inference, newest, class);
+            for position in Position::ALL {
+                outcome = self.beside(&inference, position, newest);
                 if outcome.is_err() {
                     break 'search;
                 }

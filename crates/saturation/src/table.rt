@@ -2,10 +2,9 @@
 ghost use Rattle.std.specs.Prelude.{◌≤◌, length};
 ghost use Rattle.saturation.specs.Phases.{is_begun};
 ghost use Rattle.saturation.specs.Rows.{TurnsWithin, Unmarked};
-ghost use Rattle.saturation.specs.Buckets.{HeadsLast, LinksBack};
-ghost use Rattle.saturation.specs.Classes.{ClassLinks};
+ghost use Rattle.saturation.specs.Buckets.{Indexed};
+ghost use Rattle.saturation.specs.Sides.{Sided};
 
-use crate::class::CLASSES;
 use crate::phase::Phase;
 use crate::row::Row;
 
@@ -17,8 +16,6 @@ pub struct Table<'a, G> {
     pub grades: &'a mut [G],
     pub len: usize,
     pub settled: usize,
-    // For each class the settling place, from 1, of the last one settled; 0 is none.
-    pub latest: [usize; CLASSES],
     pub phase: Phase,
     ghost rows_fit: { len ≤ length rows.now },
     ghost grades_fit: { len ≤ length grades.now },
@@ -26,7 +23,6 @@ pub struct Table<'a, G> {
     ghost settled_fit: { settled ≤ len },
     ghost turns: { TurnsWithin rows.now settled len },
     ghost marks: { Unmarked rows.now len (is_begun phase) },
-    ghost bucket_heads: { HeadsLast rows.now len },
-    ghost bucket_links: { LinksBack rows.now len },
-    ghost class_links: { ClassLinks rows.now latest settled },
+    ghost index: { Indexed rows.now len },
+    ghost sides: { Sided rows.now settled },
 }

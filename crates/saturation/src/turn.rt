@@ -1,13 +1,11 @@
 // One turn of a run.
-ghost use Rattle.std.specs.Prelude.{◌≡◌, ◌+◌, ◌<◌, slice_index};
+ghost use Rattle.std.specs.Prelude.{◌≡◌, ◌+◌, ◌<◌};
 ghost use Rattle.saturation.specs.Phases.{sizes_of};
-ghost use Rattle.saturation.specs.Tables.{view, Same, statement_at, settled_row};
-ghost use Rattle.saturation.specs.Classes.{class_of};
+ghost use Rattle.saturation.specs.Tables.{view, Same, settled_row};
 ghost use Rattle.saturation.specs.Turns.{Turned};
 
-use crate::class::class_of;
-use crate::row::Row;
 use crate::rows::NoRow;
+use crate::side::{Side, enter_settled};
 use crate::table::Table;
 use standpoint::Kind;
 
@@ -50,22 +48,18 @@ impl<'a, G: Copy> Table<'a, G> {
         self.sizes().map_or(0, |sizes| sizes.individuals)
     }
 
-    // Row i is settled in the next turn, and linked to the last before it of its class.
+    // Row i is settled in the next turn.
     fn settle_row(&mut self, i: usize)
         requires { (i < self.old.len) × (self.old.settled < self.old.len) }
         ensures same { Same self.old self.new }
-        ensures state { view self.new ≡ settled_row (view self.old) i (slice_index self.old.latest (class_of (statement_at (view self.old) i))) }
+        ensures state { view self.new ≡ settled_row (view self.old) i }
     {
         let k = self.settled;
-        let class = class_of(self.rows[i].statement);
-        let row = self.rows[k];
-        self.rows[k] = Row {
-            turn: i,
-            earlier: self.latest[class],
-            ..row
-        };
-        self.rows[i].place = Some(k);
-        self.latest[class] = k + 1;
+        let statement = self.rows[i].statement;
+        let source = self.spot(Side::Source, Side::Source.key(statement));
+        let target = self.spot(Side::Target, Side::Target.key(statement));
+        let inner = self.spot(Side::Inner, Side::Inner.key(statement));
+        enter_settled(self.rows, k, i, source, target, inner);
         self.settled = k + 1;
     }
 }

@@ -1,7 +1,7 @@
 use Rattle.std.proofs.Common.{refl, ap, ◌∙◌, inl, inr, arith}
 use Rattle.saturation.specs.Phases.{is_begun}
 use Rattle.saturation.specs.Tables.{view}
-use Rattle.explanation.proofs.Marking.{place_within, adds_rests}
+use Rattle.explanation.proofs.Marking.{place_within}
 use Rattle.explanation.proofs.marks.mark_premises.Goals as goal
 
 pub mark_place-requires : goal.mark_place-requires
@@ -23,7 +23,3 @@ mark_place-requires-3 g c =
     let e = one.state.but_marks.settled in
     let f = two.state.but_marks.settled in
     (omega arith, ap is_begun (two.same.2 ∙ one.same.2) ∙ c.requires.1)
-
-pub returns-clause-state : goal.returns-clause-state
-returns-clause-state g c =
-    adds_rests (view c.args.reasoner.now) (view c.mark_place.new.reasoner) (view c.mark_place-2.new.reasoner) (view c.mark_place-3.new.reasoner) c.args.k c.kept_step-kept.result c.kept_step-kept.ensures c.mark_place.ensures.state c.mark_place-2.ensures.state c.mark_place-3.ensures.state

@@ -3,6 +3,7 @@ use borrow.Author.Tests.{both_ways}
 use Rattle.saturation.specs.Phases.{is_begun}
 use Rattle.saturation.specs.Tables.{view, row_at}
 use Rattle.saturation.proofs.RowFacts.{facts_of, set_facts}
+use Rattle.saturation.proofs.Siding.{same_chains}
 use Rattle.explanation.specs.Marks.{remarked}
 use Rattle.explanation.proofs.Clearing.{settled_rows}
 use Rattle.explanation.proofs.marks.set_mark.Goals as goal
@@ -12,5 +13,5 @@ invariant_of-reasoner g c =
     let t = c.args.reasoner.now in
     let fits = settled_rows t in
     let within = c.requires.0 in
-    let f = set_facts t.rows.now t.latest t.settled t.len (is_begun t.phase) (facts_of t) c.args.k (remarked (row_at (view t) c.args.k) true) (omega arith) refl refl refl refl refl (λ on. absurd (both_ways _ c.requires.1 on)) in
-    record { rows_fit = f.fits; grades_fit = t.grades_fit; few = t.few; settled_fit = t.settled_fit; turns = f.turns; marks = f.marks; bucket_heads = f.bucket_heads; bucket_links = f.bucket_links; class_links = f.class_links }
+    let f = set_facts t.rows.now t.settled t.len (is_begun t.phase) (facts_of t) c.args.k (remarked (row_at (view t) c.args.k) true) (omega arith) refl refl refl (same_chains _ _ refl refl refl) (λ on. absurd (both_ways _ c.requires.1 on)) in
+    record { rows_fit = f.fits; grades_fit = t.grades_fit; few = t.few; settled_fit = t.settled_fit; turns = f.turns; marks = f.marks; index = f.index; sides = f.sides }

@@ -1,18 +1,19 @@
 use Rattle.std.proofs.Common.{true}
 use Rattle.standpoint.specs.RuleNumbers.{number_of_rule}
 use Rattle.saturation.specs.Tables.{view, Same}
-use Rattle.saturation.specs.Searching.{Went, Around}
-use Rattle.saturation.proofs.Walking.{Reached, From}
-use Rattle.saturation.proofs.Enumerating.{Using}
+use Rattle.saturation.specs.Searching.{Went}
+use Rattle.saturation.proofs.Chaining.{walk_left}
+use Rattle.saturation.proofs.Walking.{Standing, From}
+use Rattle.saturation.proofs.Enumerating.{AroundAt, Using}
 use Rattle.saturation.proofs.table.Table.along.Given as goal
 
--- what the premises so far give was offered
-abbrev pub invariant-loop-place : goal.invariant-loop-place
-invariant-loop-place g l =
+-- what the partners that the walk has passed give was offered
+abbrev pub invariant-loop-at : goal.invariant-loop-at
+invariant-loop-at g l =
     let al = g.K.Kind.algebra l.inference.kind.now in
     let v = l.inference.individuals in
-    Same l.initial.self l.self × Reached l.self.rows.now l.self.settled l.class l.place
-    × Went al v (view l.initial.self) (view l.self) (From (Around al v (number_of_rule l.inference.rule) l.newest) l.class l.place) (Using al v l.newest) true
+    Same l.initial.self l.self × Standing l.self.rows.now l.self.settled l.lane l.at
+    × Went al v (view l.initial.self) (view l.self) (From l.lane (AroundAt al v (number_of_rule l.inference.rule) l.position l.newest) l.at) (Using al v l.newest) true
 
-abbrev pub decreases-loop-place : goal.decreases-loop-place
-decreases-loop-place g l = l.place
+abbrev pub decreases-loop-at : goal.decreases-loop-at
+decreases-loop-at g l = walk_left l.at

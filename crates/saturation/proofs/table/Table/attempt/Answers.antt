@@ -10,16 +10,6 @@ use Rattle.saturation.proofs.Reading.{premises_stand}
 use Rattle.saturation.proofs.Searches.{attempt_none, attempt_some}
 use Rattle.saturation.proofs.table.Table.attempt.Goals as goal
 
-pub returns-then-not-may_give-clause-state : goal.returns-then-not-may_give-clause-state
-returns-then-not-may_give-clause-state g c =
-    let al = g.K.Kind.algebra c.args.inference.now.kind.now in
-    let t = c.args.self.now in
-    let n = c.args.inference.now.individuals in
-    let places = listed_places c.args.at in
-    let stands = premises_stand (view t) (t.settled_fit, t.turns) t.grades_fit al.start places c.requires in
-    let none = c.may_give.ensures c.if-not-may_give.true al.start n in
-    attempt_none al n (view t) (number_of_rule c.args.inference.now.rule) places (premises_in (view t) al.start places) stands none
-
 pub returns-in-None-clause-state : goal.returns-in-None-clause-state
 returns-in-None-clause-state g c =
     let al = g.K.Kind.algebra c.args.inference.now.kind.now in

@@ -2,11 +2,12 @@ use Rattle.std.proofs.Common.{refl, arith}
 use Rattle.saturation.specs.Phases.{is_begun}
 use Rattle.saturation.specs.Tables.{view, row_at, rekept}
 use Rattle.saturation.proofs.RowFacts.{facts_of, set_facts}
+use Rattle.saturation.proofs.Siding.{same_chains}
 use Rattle.saturation.proofs.table.Table.improve.Goals as goal
 
 pub invariant_of-self : goal.invariant_of-self
 invariant_of-self g c =
     let t = c.args.self.now in
     let fits = t.rows_fit in
-    let f = set_facts t.rows.now t.latest t.settled t.len (is_begun t.phase) (facts_of t) c.args.i (rekept (row_at (view t) c.args.i) c.args.kept) (omega arith) refl refl refl refl refl (λ on. refl) in
-    record { rows_fit = f.fits; grades_fit = t.grades_fit; few = t.few; settled_fit = t.settled_fit; turns = f.turns; marks = f.marks; bucket_heads = f.bucket_heads; bucket_links = f.bucket_links; class_links = f.class_links }
+    let f = set_facts t.rows.now t.settled t.len (is_begun t.phase) (facts_of t) c.args.i (rekept (row_at (view t) c.args.i) c.args.kept) (omega arith) refl refl refl (same_chains _ _ refl refl refl) (λ on. refl) in
+    record { rows_fit = f.fits; grades_fit = t.grades_fit; few = t.few; settled_fit = t.settled_fit; turns = f.turns; marks = f.marks; index = f.index; sides = f.sides }

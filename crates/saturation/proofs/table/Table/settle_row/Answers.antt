@@ -1,43 +1,31 @@
-use Rattle.std.proofs.Common.{◌≡◌, ℕ, ◌+◌, ◌<◌, length, slice_index, slice_set, ap, refl, arith, rules, length-set}
+use Rattle.std.proofs.Common.{◌+◌, List, sym, ap, subst, ◌∙◌, arith}
+use Rattle.saturation.specs.declared.row.Row.{Row}
+use Rattle.saturation.specs.declared.side.Side.TheVariants.{Source, Target, Inner}
 use Rattle.saturation.specs.Phases.{is_begun}
-use Rattle.saturation.specs.Tables.{view, row_at, with_turn, placed, settled_row}
-use Rattle.saturation.proofs.Linking.{named_class_links}
-use Rattle.saturation.proofs.RowFacts.{facts_of, set_facts, turned_facts}
+use Rattle.saturation.specs.Sides.{spot_of}
+use Rattle.saturation.specs.Tables.{view}
+use Rattle.saturation.proofs.RowFacts.{RowFacts, facts_of, settled_facts}
+use Rattle.saturation.proofs.Settling.{settled_as}
 use Rattle.saturation.proofs.table.Table.settle_row.Goals as goal
 
 pub invariant_of-self : goal.invariant_of-self
 invariant_of-self g c =
     let t = c.args.self.now in
-    let fits = t.rows_fit in
-    let class = c.class_of-class in
-    let long : length t.latest ≡ 10 = search rules in
-    let f = turned_facts t.rows.now t.latest t.settled t.len (is_begun t.phase) (facts_of t) c.args.i _ class.result c.requires.0 (omega arith) long class.ensures refl in
-    record {
-      rows_fit = f.fits;
-      grades_fit = t.grades_fit;
-      few = t.few;
-      settled_fit = t.settled_fit;
-      turns = λ k h. f.turns k (omega arith);
-      marks = f.marks;
-      bucket_heads = f.bucket_heads;
-      bucket_links = f.bucket_links;
-      class_links = named_class_links t.rows.now t.settled c.args.i _ (omega arith) t.latest t.class_links;
-    }
-
-pub invariant_of-self-2 : goal.invariant_of-self-2
-invariant_of-self-2 g c =
-    let t = c.args.self.now in
-    let fits = t.rows_fit in
-    let class = c.class_of-class in
-    let h = slice_index t.latest class.result in
-    let m = with_turn (view t) t.settled c.args.i h in
-    let long : length t.latest ≡ 10 = search rules in
-    let first = turned_facts t.rows.now t.latest t.settled t.len (is_begun t.phase) (facts_of t) c.args.i h class.result c.requires.0 (omega arith) long class.ensures refl in
-    let within : c.args.i < length m.rows = simp length-set (omega arith) in
-    let f = set_facts m.rows (slice_set t.latest class.result (t.settled + 1)) (t.settled + 1) t.len (is_begun t.phase) first c.args.i (placed (row_at m c.args.i) t.settled) within refl refl refl refl refl (λ on. refl) in
-    record { rows_fit = f.fits; grades_fit = t.grades_fit; few = t.few; settled_fit = omega arith; turns = f.turns; marks = f.marks; bucket_heads = f.bucket_heads; bucket_links = f.bucket_links; class_links = f.class_links }
+    let rows = t.rows.now in
+    let room = c.requires.1 in
+    let f = subst (λ (new : List Row). RowFacts new (t.settled + 1) t.len (is_begun t.phase)) (sym c.enter_settled.ensures)
+    (settled_facts rows t.settled t.len (is_begun t.phase) (facts_of t) c.args.i c.spot-source.result c.spot-target.result c.spot-inner.result c.requires.0 c.requires.1
+    (c.spot-source.ensures.value ∙ ap (spot_of Source rows t.settled) c.key.ensures)
+    (c.spot-target.ensures.value ∙ ap (spot_of Target rows t.settled) c.key-2.ensures)
+    (c.spot-inner.ensures.value ∙ ap (spot_of Inner rows t.settled) c.key-3.ensures)) in
+    record { rows_fit = f.fits; grades_fit = t.grades_fit; few = t.few; settled_fit = omega arith; turns = f.turns; marks = f.marks; index = f.index; sides = f.sides }
 
 pub returns-clause-state : goal.returns-clause-state
 returns-clause-state g c =
     let t = c.args.self.now in
-    ap (λ (d : ℕ). settled_row (view t) c.args.i (slice_index t.latest d)) c.class_of-class.ensures
+    let rows = t.rows.now in
+    settled_as (view t) c.args.i c.enter_settled.new.rows c.spot-source.result c.spot-target.result c.spot-inner.result
+    (c.spot-source.ensures.value ∙ ap (spot_of Source rows t.settled) c.key.ensures)
+    (c.spot-target.ensures.value ∙ ap (spot_of Target rows t.settled) c.key-2.ensures)
+    (c.spot-inner.ensures.value ∙ ap (spot_of Inner rows t.settled) c.key-3.ensures)
+    c.enter_settled.ensures

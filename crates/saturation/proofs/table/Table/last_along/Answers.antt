@@ -1,0 +1,15 @@
+use Rattle.std.proofs.Common.{◌≡◌, None, sym, subst}
+use Rattle.saturation.specs.declared.lane.Lane.{Lane}
+use Rattle.saturation.specs.Chains.{last_in}
+use Rattle.saturation.specs.Lanes.{track, lane_bucket}
+use Rattle.saturation.proofs.Walking.{last_nowhere, last_by_number}
+use Rattle.saturation.proofs.table.Table.last_along.Goals as goal
+
+pub returns-in-Nowhere : goal.returns-in-Nowhere
+returns-in-Nowhere g c =
+    let t = c.args.self.now in
+    let rows = t.rows.now in
+    subst (λ (lane : Lane). None ≡ last_in (track rows lane) (lane_bucket rows lane) t.settled) (sym c.in-Nowhere.is) (sym (last_nowhere rows t.settled))
+
+pub returns-in-Outer : goal.returns-in-Outer
+returns-in-Outer g c = last_by_number c.args.self.now.rows.now c.args.lane c.args.self.now.settled c.checked_sub.result c.in-Outer.is c.checked_sub.ensures
