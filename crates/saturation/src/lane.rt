@@ -63,6 +63,7 @@ fn beside_first(rule: Rule, x: Statement) -> Lane
 {
     let source = source_key(x);
     let target = target_key(x);
+    let inner = inner_key(x);
     let sharper = x.shape == SHARPER;
     let nested = x.shape == NESTED_INCLUSION;
     let possible = x.shape == POSSIBLE_INCLUSION;
@@ -76,7 +77,7 @@ fn beside_first(rule: Rule, x: Statement) -> Lane
         Rule::SharperThanBoth => when(sharper, along(Side::Source, INTERSECTION_SHARPER, target)),
         Rule::Lowered => along(Side::Target, SHARPER, sharpened_to(x.first)),
         Rule::LoweredInside => when(nested, along(Side::Target, SHARPER, sharpened_to(x.third))),
-        Rule::InsideTransitive => when(nested, along(Side::Source, NESTED_INCLUSION, source)),
+        Rule::InsideTransitive => when(nested, along(Side::Inner, NESTED_INCLUSION, target)),
         Rule::SubsumedNested => when(
             nested && x.second == 0,
             along(Side::Source, NESTED_INCLUSION, target),
@@ -120,6 +121,7 @@ fn beside_second(rule: Rule, x: Statement) -> Lane
 {
     let source = source_key(x);
     let target = target_key(x);
+    let inner = inner_key(x);
     let sharper = x.shape == SHARPER;
     let nested = x.shape == NESTED_INCLUSION;
     let possible = x.shape == POSSIBLE_INCLUSION;
@@ -132,7 +134,7 @@ fn beside_second(rule: Rule, x: Statement) -> Lane
         Rule::SharperThanBoth => when(sharper, along(Side::Target, INTERSECTION_SHARPER, target)),
         Rule::Lowered => when(sharper, Lane::Outer(x.second)),
         Rule::LoweredInside => when(sharper, Lane::Inside(x.second)),
-        Rule::InsideTransitive => when(nested, along(Side::Source, NESTED_INCLUSION, source)),
+        Rule::InsideTransitive => when(nested, along(Side::Target, NESTED_INCLUSION, inner)),
         Rule::SubsumedNested | Rule::NecessaryThenNested => {
             when(nested, along(Side::Target, NESTED_INCLUSION, source))
         }
@@ -146,11 +148,11 @@ fn beside_second(rule: Rule, x: Statement) -> Lane
         }
         Rule::ExistentialWidened => when(
             nested && x.second == 0,
-            along(Side::Target, EXISTENTIAL_RIGHT, inner_key(x)),
+            along(Side::Target, EXISTENTIAL_RIGHT, inner),
         ),
         Rule::ExistentialChained => when(
             x.shape == EXISTENTIAL_RIGHT,
-            along(Side::Target, ROLE_CHAIN, inner_key(x)),
+            along(Side::Target, ROLE_CHAIN, inner),
         ),
         Rule::ExistentialMet => when(
             x.shape == EXISTENTIAL_LEFT,
