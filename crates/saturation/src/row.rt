@@ -40,6 +40,7 @@ pub struct Chain {
 }
 
 impl Chain {
+    // What memory may hold before it is lent.
     pub const EMPTY: Chain = Chain {
         head: 0,
         link: None,
