@@ -1,7 +1,9 @@
 // The rules by their names and their numbers.
-ghost use Rattle.std.specs.Prelude.{◌≡◌};
+ghost use Rattle.std.specs.Prelude.{◌≡◌, map};
+ghost use Rattle.std.specs.List.{range_with_len};
 ghost use Rattle.standpoint.specs.RuleNumbers.{Named, number_of_rule};
 ghost use Rattle.standpoint.specs.Rules.{HasArity};
+ghost use Rattle.standpoint.specs.declared.rules.named.TheConstants.Rule.{ALL};
 
 // The rules, in the order of their numbers.
 #[derive(Clone, Copy, PartialEq, Eq)]
@@ -99,9 +101,10 @@ impl Rule {
         Rule::IndividualEmpty,
     ];
 
-    // The number by which the rule is known.
+    // The number by which the rule is known; those of `ALL` are 1 to 23 in turn.
     pub fn number(self) -> u8
-        ensures { result ≡ number_of_rule self }
+        ensures value { result ≡ number_of_rule self }
+        ensures all { map number_of_rule ALL ≡ range_with_len 1 23 }
     {
         self as u8
     }
