@@ -2,6 +2,7 @@
 ghost use Rattle.std.specs.Prelude.{◌≡◌, ◌<◌, length};
 ghost use Rattle.standpoint.specs.Lists.{Tells};
 ghost use Rattle.standpoint.specs.RuleNumbers.{number_of_rule};
+ghost use Rattle.saturation.specs.declared.side.Side.TheVariants.{Source, Target};
 ghost use Rattle.saturation.specs.Chains.{last_in};
 ghost use Rattle.saturation.specs.Sides.{key, settled_at};
 ghost use Rattle.saturation.specs.Lanes.{when, along, beside_first, beside_second, beside_third, partners, last_lane, Within, track, lane_bucket};
@@ -57,60 +58,50 @@ fn sharpened_to(standpoint: u16) -> Key
     }
 }
 
+// The statements of a shape that start at a node.
+fn starting(shape: u8, node: Key) -> Lane
+    ensures { result ≡ along Source shape node }
+{
+    along(Side::Source, shape, node)
+}
+
+// The statements of a shape that end at a node.
+fn ending(shape: u8, node: Key) -> Lane
+    ensures { result ≡ along Target shape node }
+{
+    along(Side::Target, shape, node)
+}
+
 // The partners of the first premise x: the second of two, or the third of three.
 fn beside_first(rule: Rule, x: Statement) -> Lane
     ensures { result ≡ beside_first (number_of_rule rule) x }
 {
-    let source = source_key(x);
     let target = target_key(x);
-    let inner = inner_key(x);
+    let role = x.shape == ROLE_INCLUSION;
     let sharper = x.shape == SHARPER;
     let nested = x.shape == NESTED_INCLUSION;
+    let subsumed = nested && x.second == 0;
+    let necessary = nested && x.fourth == 0;
     let possible = x.shape == POSSIBLE_INCLUSION;
     let existential = x.shape == EXISTENTIAL_RIGHT;
     match rule {
-        Rule::RoleTransitive => when(
-            x.shape == ROLE_INCLUSION,
-            along(Side::Source, ROLE_INCLUSION, target),
-        ),
-        Rule::SharperTransitive => when(sharper, along(Side::Source, SHARPER, target)),
-        Rule::SharperThanBoth => when(sharper, along(Side::Source, INTERSECTION_SHARPER, target)),
-        Rule::Lowered => along(Side::Target, SHARPER, sharpened_to(x.first)),
-        Rule::LoweredInside => when(nested, along(Side::Target, SHARPER, sharpened_to(x.third))),
+        Rule::RoleTransitive => when(role, starting(ROLE_INCLUSION, target)),
+        Rule::SharperTransitive => when(sharper, starting(SHARPER, target)),
+        Rule::SharperThanBoth => when(sharper, starting(INTERSECTION_SHARPER, target)),
+        Rule::Lowered => ending(SHARPER, sharpened_to(x.first)),
+        Rule::LoweredInside => when(nested, ending(SHARPER, sharpened_to(x.third))),
         Rule::InsideTransitive => when(nested, along(Side::Inner, NESTED_INCLUSION, target)),
-        Rule::SubsumedNested => when(
-            nested && x.second == 0,
-            along(Side::Source, NESTED_INCLUSION, target),
-        ),
-        Rule::SubsumedPossible => when(
-            nested && x.second == 0,
-            along(Side::Source, POSSIBLE_INCLUSION, target),
-        ),
-        Rule::NecessaryThenNested => when(
-            nested && x.fourth == 0,
-            along(Side::Source, NESTED_INCLUSION, target),
-        ),
-        Rule::NecessaryThenPossible => when(
-            nested && x.fourth == 0,
-            along(Side::Source, POSSIBLE_INCLUSION, target),
-        ),
-        Rule::PossibleWidened => when(possible, along(Side::Source, NESTED_INCLUSION, source)),
-        Rule::PossibleThenNested => when(possible, along(Side::Source, NESTED_INCLUSION, target)),
-        Rule::PossibleThenPossible => {
-            when(possible, along(Side::Source, POSSIBLE_INCLUSION, target))
-        }
-        Rule::ExistentialWidened => {
-            when(
-                existential,
-                along(Side::Source, ROLE_INCLUSION, inner_key(x)),
-            )
-        }
-        Rule::ExistentialChained => when(
-            existential,
-            along(Side::Source, ROLE_CHAIN, inner_key(x)),
-        ),
-        Rule::ExistentialMet => when(existential, along(Side::Source, EXISTENTIAL_LEFT, target)),
-        Rule::ConjunctionMet => when(nested, along(Side::Source, CONJUNCTION_LEFT, target)),
+        Rule::SubsumedNested => when(subsumed, starting(NESTED_INCLUSION, target)),
+        Rule::SubsumedPossible => when(subsumed, starting(POSSIBLE_INCLUSION, target)),
+        Rule::PossibleWidened => when(possible, starting(NESTED_INCLUSION, source_key(x))),
+        Rule::NecessaryThenNested => when(necessary, starting(NESTED_INCLUSION, target)),
+        Rule::NecessaryThenPossible => when(necessary, starting(POSSIBLE_INCLUSION, target)),
+        Rule::PossibleThenNested => when(possible, starting(NESTED_INCLUSION, target)),
+        Rule::PossibleThenPossible => when(possible, starting(POSSIBLE_INCLUSION, target)),
+        Rule::ExistentialWidened => when(existential, starting(ROLE_INCLUSION, inner_key(x))),
+        Rule::ExistentialChained => when(existential, starting(ROLE_CHAIN, inner_key(x))),
+        Rule::ExistentialMet => when(existential, starting(EXISTENTIAL_LEFT, target)),
+        Rule::ConjunctionMet => when(nested, starting(CONJUNCTION_LEFT, target)),
         _ => Lane::Nowhere,
     }
 }
@@ -122,43 +113,31 @@ fn beside_second(rule: Rule, x: Statement) -> Lane
     let source = source_key(x);
     let target = target_key(x);
     let inner = inner_key(x);
+    let role = x.shape == ROLE_INCLUSION;
     let sharper = x.shape == SHARPER;
     let nested = x.shape == NESTED_INCLUSION;
+    let subsumed = nested && x.second == 0;
     let possible = x.shape == POSSIBLE_INCLUSION;
+    let existential = x.shape == EXISTENTIAL_RIGHT;
+    let left = x.shape == EXISTENTIAL_LEFT;
     match rule {
-        Rule::RoleTransitive => when(
-            x.shape == ROLE_INCLUSION,
-            along(Side::Target, ROLE_INCLUSION, source),
-        ),
-        Rule::SharperTransitive => when(sharper, along(Side::Target, SHARPER, source)),
-        Rule::SharperThanBoth => when(sharper, along(Side::Target, INTERSECTION_SHARPER, target)),
+        Rule::RoleTransitive => when(role, ending(ROLE_INCLUSION, source)),
+        Rule::SharperTransitive => when(sharper, ending(SHARPER, source)),
+        Rule::SharperThanBoth => when(sharper, ending(INTERSECTION_SHARPER, target)),
         Rule::Lowered => when(sharper, Lane::Outer(x.second)),
         Rule::LoweredInside => when(sharper, Lane::Inside(x.second)),
-        Rule::InsideTransitive => when(nested, along(Side::Target, NESTED_INCLUSION, inner)),
-        Rule::SubsumedNested | Rule::NecessaryThenNested => {
-            when(nested, along(Side::Target, NESTED_INCLUSION, source))
-        }
-        Rule::SubsumedPossible | Rule::NecessaryThenPossible => {
-            when(possible, along(Side::Target, NESTED_INCLUSION, source))
-        }
-        Rule::PossibleWidened => when(nested, along(Side::Source, POSSIBLE_INCLUSION, source)),
-        Rule::PossibleThenNested => when(nested, along(Side::Target, POSSIBLE_INCLUSION, source)),
-        Rule::PossibleThenPossible => {
-            when(possible, along(Side::Target, POSSIBLE_INCLUSION, source))
-        }
-        Rule::ExistentialWidened => when(
-            nested && x.second == 0,
-            along(Side::Target, EXISTENTIAL_RIGHT, inner),
-        ),
-        Rule::ExistentialChained => when(
-            x.shape == EXISTENTIAL_RIGHT,
-            along(Side::Target, ROLE_CHAIN, inner),
-        ),
-        Rule::ExistentialMet => when(
-            x.shape == EXISTENTIAL_LEFT,
-            along(Side::Target, EXISTENTIAL_RIGHT, source),
-        ),
-        Rule::ConjunctionMet => when(nested, along(Side::Target, CONJUNCTION_LEFT, target)),
+        Rule::InsideTransitive => when(nested, ending(NESTED_INCLUSION, inner)),
+        Rule::SubsumedNested => when(nested, ending(NESTED_INCLUSION, source)),
+        Rule::SubsumedPossible => when(possible, ending(NESTED_INCLUSION, source)),
+        Rule::PossibleWidened => when(nested, starting(POSSIBLE_INCLUSION, source)),
+        Rule::NecessaryThenNested => when(nested, ending(NESTED_INCLUSION, source)),
+        Rule::NecessaryThenPossible => when(possible, ending(NESTED_INCLUSION, source)),
+        Rule::PossibleThenNested => when(nested, ending(POSSIBLE_INCLUSION, source)),
+        Rule::PossibleThenPossible => when(possible, ending(POSSIBLE_INCLUSION, source)),
+        Rule::ExistentialWidened => when(subsumed, ending(EXISTENTIAL_RIGHT, inner)),
+        Rule::ExistentialChained => when(existential, ending(ROLE_CHAIN, inner)),
+        Rule::ExistentialMet => when(left, ending(EXISTENTIAL_RIGHT, source)),
+        Rule::ConjunctionMet => when(nested, ending(CONJUNCTION_LEFT, target)),
         _ => Lane::Nowhere,
     }
 }
@@ -170,7 +149,7 @@ fn beside_third(rule: Rule, x: Statement) -> Lane
     match rule {
         Rule::SharperThanBoth => when(
             x.shape == INTERSECTION_SHARPER,
-            along(Side::Target, SHARPER, source_key(x)),
+            ending(SHARPER, source_key(x)),
         ),
         Rule::ExistentialWidened => when(
             x.shape == ROLE_INCLUSION,
@@ -182,7 +161,7 @@ fn beside_third(rule: Rule, x: Statement) -> Lane
         ),
         Rule::ConjunctionMet => when(
             x.shape == CONJUNCTION_LEFT,
-            along(Side::Target, NESTED_INCLUSION, source_key(x)),
+            ending(NESTED_INCLUSION, source_key(x)),
         ),
         _ => Lane::Nowhere,
     }
@@ -204,36 +183,26 @@ pub(crate) fn last_lane(rule: Rule, position: Position, x: Statement, y: Stateme
     ensures { result ≡ last_lane (number_of_rule rule) position x y }
 {
     match (rule, position) {
-        (Rule::SharperThanBoth, Position::First) => along(Side::Target, SHARPER, target_key(y)),
-        (Rule::SharperThanBoth, Position::Second) => along(Side::Target, SHARPER, source_key(y)),
-        (Rule::SharperThanBoth, Position::Third) => along(Side::Target, SHARPER, target_key(x)),
+        (Rule::SharperThanBoth, Position::First) => ending(SHARPER, target_key(y)),
+        (Rule::SharperThanBoth, Position::Second) => ending(SHARPER, source_key(y)),
+        (Rule::SharperThanBoth, Position::Third) => ending(SHARPER, target_key(x)),
         (Rule::ExistentialWidened, Position::First) => {
             along(Side::Inner, NESTED_INCLUSION, target_key(x))
         }
-        (Rule::ExistentialWidened, Position::Second) => {
-            along(Side::Source, ROLE_INCLUSION, inner_key(y))
-        }
+        (Rule::ExistentialWidened, Position::Second) => { starting(ROLE_INCLUSION, inner_key(y)) }
         (Rule::ExistentialWidened, Position::Third) => {
             along(Side::Inner, NESTED_INCLUSION, target_key(y))
         }
         (Rule::ExistentialChained, Position::First) => {
-            along(Side::Source, EXISTENTIAL_RIGHT, target_key(x))
+            starting(EXISTENTIAL_RIGHT, target_key(x))
         }
-        (Rule::ExistentialChained, Position::Second) => {
-            along(Side::Target, EXISTENTIAL_RIGHT, source_key(x))
-        }
+        (Rule::ExistentialChained, Position::Second) => { ending(EXISTENTIAL_RIGHT, source_key(x)) }
         (Rule::ExistentialChained, Position::Third) => {
-            along(Side::Source, EXISTENTIAL_RIGHT, target_key(y))
+            starting(EXISTENTIAL_RIGHT, target_key(y))
         }
-        (Rule::ConjunctionMet, Position::First) => {
-            along(Side::Target, NESTED_INCLUSION, target_key(y))
-        }
-        (Rule::ConjunctionMet, Position::Second) => {
-            along(Side::Target, NESTED_INCLUSION, source_key(y))
-        }
-        (Rule::ConjunctionMet, Position::Third) => {
-            along(Side::Target, NESTED_INCLUSION, target_key(x))
-        }
+        (Rule::ConjunctionMet, Position::First) => { ending(NESTED_INCLUSION, target_key(y)) }
+        (Rule::ConjunctionMet, Position::Second) => { ending(NESTED_INCLUSION, source_key(y)) }
+        (Rule::ConjunctionMet, Position::Third) => { ending(NESTED_INCLUSION, target_key(x)) }
         _ => Lane::Nowhere,
     }
 }
