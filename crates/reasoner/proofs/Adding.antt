@@ -49,7 +49,7 @@ module _ {G : Type 0} (al : Algebra G) (b : Base G) (x : Statement) (g : G) wher
       run = fresh;
       lists = lists_grown s t [] fit taken.grown h.lists;
       offered = (x, g) ∷ h.offered;
-      rows = taken.best refl h.offered h.rows;
+      rows = taken.ranked refl h.offered h.rows;
       sound = λ o. ⊎_elim
           (λ e. subst (λ (p : Statement × G). Offers al (accepting b x g) [] p.0 p.1) e (leaf (accepted (inl refl) fits)))
           (λ m. wider o.0 o.1 (h.sound o m));
@@ -61,10 +61,10 @@ module _ {G : Type 0} (al : Algebra G) (b : Base G) (x : Statement) (g : G) wher
   -- a statement that finds no row is new, and all rows are taken
   pub taken_all : (s : State G) → Holds al b [] s → s.len ≤ length s.grades → has_room s ≡ false → Absent s x → (Known al b [] x → ⊥) × AllRowsTaken al b (capacity s)
   taken_all s h grades_fit none absent = (
-    λ known. let p = h.rows.every x known.0 (h.complete x known.0 known.1) in absent p.0 p.1 p.2,
+    λ known. let p = h.rows.best.every x known.0 (h.complete x known.0 known.1) in absent p.0 p.1 p.2,
     (
       held s s.len,
-      apart_distinct (held s s.len) (apart_held s s.len (omega arith) h.rows.apart),
+      apart_distinct (held s s.len) (apart_held s s.len (omega arith) h.rows.best.apart),
       λ y m. let p = in_held s s.len y m in subst (Known al b []) p.2 (row_known al b [] s h grades_fit p.0 p.1),
       let long = length_held s s.len in let full : capacity s ≤ s.len = grind (arith, nat_tests) in omega arith,
     ),

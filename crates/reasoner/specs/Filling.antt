@@ -8,13 +8,13 @@ use Rattle.standpoint.specs.Algebra.{Algebra}
 use Rattle.standpoint.specs.Rules.{Tautology}
 use Rattle.standpoint.specs.Tautologies.{tautologies}
 use Rattle.saturation.specs.Tables.{State, OpenAt, capacity}
-use Rattle.saturation.specs.Offering.{BestOf, RowsRight}
+use Rattle.saturation.specs.Offering.{Ranked, RowsRight}
 use Rattle.reasoner.specs.Models.{empty_base}
 
 -- the first k tautologies are taken, and nothing else
 pub record Filled {G : Type 0} (a : Algebra G) (n : Sizes) (s : State G) (k : ℕ) : Type 0 where
   pub offered : List (Statement × G)
-  pub rows : BestOf a s offered
+  pub rows : Ranked a s offered
   pub sound : (o : Statement × G) → In offered o → Tautology n o.0 × (o.1 ≡ a.start)
   pub complete : (j : ℕ) (x : Statement) → j < k → slice_get (tautologies n) j ≡ Some x → In offered (x, a.start)
   pub few : s.len ≤ k

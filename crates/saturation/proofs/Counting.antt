@@ -57,7 +57,7 @@ module _ {G : Type 0} (al : Algebra G) (base : Base G) (l : Settled G) (s : Stat
       (λ j lt.
       let x = nth_some xs j lt in
       let known = full.2 x.0 (in_nth xs j x.0 x.1) in
-      let p = h.rows.every x.0 known.0 (h.complete x.0 known.0 known.1) in
+      let p = h.rows.best.every x.0 known.0 (h.complete x.0 known.0 known.1) in
       (p.0, p.1, x.1 ∙ ap Some (sym p.2)))
       (λ i j k hi hj a b. full.1 i j (statement_at s k) a b) in
       let more = full.3 in
@@ -67,7 +67,7 @@ module _ {G : Type 0} (al : Algebra G) (base : Base G) (l : Settled G) (s : Stat
   pub some_open : Fit s → s.len ≤ length s.grades → s.settled < s.len → (x : Statement) × Known al base l x × Unsettled l x
   some_open fit grades_fit room =
       ⊎_elim
-      (λ k. (statement_at s k.0, row_known al base l s h grades_fit k.0 k.1, open_unsettled s l h.lists al h.offered fit h.rows k.0 k.1 k.2))
+      (λ k. (statement_at s k.0, row_known al base l s h grades_fit k.0 k.1, open_unsettled s l h.lists al h.offered fit h.rows.best k.0 k.1 k.2))
       (λ none.
       let few = placed_apart s.len s.settled (λ i k. turn_at s k ≡ i) (λ i lt. h.lists.back i lt (none i lt)) (λ i j k hi hj a b. sym a ∙ b) in
       absurd (let z : ⊥ = omega arith in z))

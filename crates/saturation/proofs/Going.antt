@@ -77,14 +77,14 @@ module _ {G : Type 0} (al : Algebra G) (base : Base G) (l : Settled G) (s : Stat
       ⊎_elim
       (λ un.
       let v = value_at s.grades k (omega arith) in
-      (get_or s.grades k v.0, h.sound (statement_at s k, get_or s.grades k v.0) (h.rows.from k lt un v.0)))
+      (get_or s.grades k v.0, h.sound (statement_at s k, get_or s.grades k v.0) (h.rows.best.from k lt un v.0)))
       (λ closed. let m = closed_settled s l h.lists k lt closed in (m.0, in_offers al base h.run (statement_at s k) m.0 m.1))
       (none_or (row_at s k).place)
 
   -- where no row is unsettled, every known statement is settled
   pub none_open : ((k : ℕ) → k < s.len → OpenAt s k → ⊥) → AllSettled al base l
   none_open closed x g m =
-      let p = h.rows.every x g (h.complete x g m) in
+      let p = h.rows.best.every x g (h.complete x g m) in
       let c = closed_settled s l h.lists p.0 p.1 (closed p.0 p.1) in
       (c.0, in_same l (statement_at s p.0) x c.0 c.0 p.2 refl c.1)
 
@@ -108,7 +108,7 @@ module _ {G : Type 0} (al : Algebra G) (base : Base G) (l : Settled G) (s : Stat
         let long = length_held t t.len in
         let more = length-append (held t t.len) (x ∷ []) in (
           held t t.len ++ x ∷ [],
-          apart_distinct (held t t.len ++ x ∷ []) (apart_push (held t t.len) x (apart_held t t.len (omega arith) (it.apart h.rows.apart)) (λ m.
+          apart_distinct (held t t.len ++ x ∷ []) (apart_push (held t t.len) x (apart_held t t.len (omega arith) (it.apart h.rows.best.apart)) (λ m.
               let p = in_held t t.len x m in k.absent p.0 p.1 p.2)),
           λ y m.
               ⊎_elim
@@ -119,7 +119,7 @@ module _ {G : Type 0} (al : Algebra G) (base : Base G) (l : Settled G) (s : Stat
         )
 
     pub went_on : (r : Turn) → Turned al base.sizes.individuals s t r → WentOn al base l t r
-    went_on turn.Nothing it = (subst (Holds al base l) (sym it.0) h, none_open (it.1 l h.lists))
+    went_on turn.Nothing it = (subst (Holds al base l) (sym it.0) h, none_open (it.1 l h.offered h.lists h.rows))
     went_on turn.Settled it =
         let o = it.o in
         let f = first_next o (it.next l h.offered h.lists h.rows) in
@@ -134,7 +134,7 @@ module _ {G : Type 0} (al : Algebra G) (base : Base G) (l : Settled G) (s : Stat
                 run = settles h.run f;
                 lists = it.lists l h.lists;
                 offered = en.os ++ h.offered;
-                rows = en.best h.offered h.rows;
+                rows = en.ranked h.offered h.rows;
                 sound = λ v m. ⊎_elim (λ a. uses_offers al base l o v (en.sound v a)) (λ b. offers_up al base l o v.0 v.1 (h.sound v b)) (in_append_cases en.os h.offered v m);
                 complete = λ x g m. ⊎_elim (λ a. in_append_right en.os h.offered (x, g) (h.complete x g a)) (λ b. in_append_left en.os h.offered (x, g) (en.complete (x, g) b)) (offers_down al base l o x g m);
                 right = k.0;
@@ -154,7 +154,7 @@ module _ {G : Type 0} (al : Algebra G) (base : Base G) (l : Settled G) (s : Stat
               record {
                 run = settles h.run f;
                 lists = it.lists l h.lists;
-                apart = it.apart h.rows.apart;
+                apart = it.apart h.rows.best.apart;
                 full = overflowed it;
                 explained = (it.keeps base refl l h.lists h.right h.explained).1;
               },

@@ -9,6 +9,8 @@ pub mod Numbering
 pub mod Sameness
 pub mod Marks
 pub mod Choosing
+pub mod Rematching
+pub mod Winners
 pub mod Stepping
 pub mod Reading
 pub mod Searches

@@ -14,8 +14,11 @@ use Rattle.saturation.specs.Rows.{no_row}
 use Rattle.saturation.specs.Buckets.{bucket_of, headed}
 use Rattle.saturation.specs.Tables.{State, row_at, statement_at, Absent, has_room, pushed, improved, rekept}
 use Rattle.saturation.specs.Places.{KeptRight}
-use Rattle.saturation.specs.Offering.{Apart, BestOf, Grown, Taken, Outdone, Keeps}
+use Rattle.saturation.specs.Offering.{Apart, BestOf, Ranked, Grown, Taken, Outdone, Keeps}
 use Rattle.saturation.proofs.Writing.{write_leaves}
+use Rattle.saturation.specs.Tournament.{Played, PlayedBut, ButWinners}
+use Rattle.saturation.proofs.Rematching.{Touched, touched_played, but_statement}
+use Rattle.saturation.proofs.Winners.{same_right, but_grown, but_apart, but_best, but_right}
 use Rattle.saturation.proofs.Indexing.{entered_long, entered_old, entered_new}
 
 pub last_or : (i n : ℕ) → i < n + 1 → (i < n) ⊎ (i ≡ n)
@@ -50,10 +53,6 @@ fst_is {G} e = ap (λ (p : Statement × G). p.0) e
 
 snd_is : {G : Type 0} {x y : Statement} {g h : G} → ◌≡◌ {A = Statement × G} (x, g) (y, h) → g ≡ h
 snd_is {G} e = ap (λ (p : Statement × G). p.1) e
-
-same_right : {G : Type 0} (al : Algebra G) (base : Base G) (l : List (Statement × G)) (x y : Statement) (g h : G) (j k : Kept) → x ≡ y → g ≡ h → j ≡ k → KeptRight al base l (x, g) j → KeptRight al base l (y, h) k
-same_right {G} al base l x y g h j k e f i r =
-    subst (λ (v : Statement). KeptRight al base l (v, h) k) e (subst (λ (v : G). KeptRight al base l (x, v) k) f (subst (λ (v : Kept). KeptRight al base l (x, g) v) i r))
 
 pub grown_refl : {G : Type 0} (s : State G) → Grown s s
 grown_refl s = record {
@@ -129,6 +128,16 @@ module _ {G : Type 0} (s : State G) (x : Row) (g : G) (rows_in : s.len < length 
 
   grade_at : (i : ℕ) → i ≡ s.len → (d : G) → get_or (pushed s x g).grades i d ≡ g
   grade_at i e d = ap (λ (k : ℕ). get_or (pushed s x g).grades k d) e ∙ new_grade d
+
+  pub pushed_touched : Touched s (pushed s x g) s.len
+  pushed_touched = record {
+    more = omega arith;
+    old = λ j h ne. omega arith;
+    winners = λ j h ne. old_column (λ (r : Row). r.winner) (λ r k. refl) j (omega arith);
+    plays = λ j h ne.
+        let lt : j < s.len = omega arith in
+        record { place = place_old j lt; statement = statement_old j lt; grade = old_grade j lt };
+  }
 
   pub pushed_apart : Absent s x.statement → Apart s → Apart (pushed s x g)
   pushed_apart absent apart i j hi hj e =
@@ -217,6 +226,14 @@ module _ {G : Type 0} (s : State G) (i : ℕ) (g : G) (kept : Kept) (rows_in : i
     grades_long = length-set s.grades i g;
   }
 
+  pub improved_touched : Touched s (improved s i g kept) i
+  improved_touched = record {
+    more = omega arith;
+    old = λ j h ne. h;
+    winners = λ j h ne. left_as (λ (r : Row). r.winner) refl j;
+    plays = λ j h ne. record { place = places_left j; statement = statements_left j; grade = better_other j ne };
+  }
+
   pub improved_apart : Apart s → Apart (improved s i g kept)
   improved_apart apart j k hj hk e = apart j k hj hk (sym (statements_left j) ∙ e ∙ statements_left k)
 
@@ -275,52 +292,78 @@ left_best {G} al s x g i within is good off b = record {
       m;
 }
 
-pub taken_pushed : {G : Type 0} (al : Algebra G) → Laws al → (s t : State G) (r : Bool) (x : Row) (g : G) → r ≡ has_room s → t ≡ cond r (pushed s x g) s → x.place ≡ None → Absent s x.statement → Taken al s t x.statement g r
-taken_pushed {G} al l s t true x g room is un absent =
-    let rows_in : s.len < length s.rows = grind (arith, nat_tests) in
-    let grades_in : s.len < length s.grades = grind (arith, nat_tests) in
-    subst (λ (z : State G). Taken al s z x.statement g true) (sym is) (record {
-      grown = pushed_grown s x g rows_in grades_in un;
-      apart = pushed_apart s x g rows_in grades_in absent;
-      only = λ k low h. statement_new s x g rows_in grades_in k (omega arith);
-      best = λ _. pushed_best s x g rows_in grades_in al l absent;
-      refused = λ e. absurd (both_ways true e refl);
-    })
-taken_pushed {G} al l s t false x g room is un absent =
-    subst (λ (z : State G). Taken al s z x.statement g false) (sym is) (record {
-      grown = grown_refl s;
-      apart = λ h. h;
-      only = λ k low h. absurd (let z : ⊥ = omega arith in z);
-      best = λ e. absurd (both_ways false refl e);
-      refused = λ _. (refl, sym room, absent);
-    })
+-- one row more, and the winners found anew
+module _ {G : Type 0} (al : Algebra G) (s m t : State G) (x : Row) (g : G) (room : has_room s ≡ true) (is : m ≡ pushed s x g) (but : ButWinners m t) where
+  from_pushed : ButWinners (pushed s x g) t
+  from_pushed = subst (λ (z : State G). ButWinners z t) is but
 
-pub taken_improved : {G : Type 0} (al : Algebra G) → Laws al → (s t : State G) (i : ℕ) (x : Statement) (g : G) (kept : Kept) → t ≡ improved s i g kept → i < s.len → s.len ≤ length s.rows → s.len ≤ length s.grades → statement_at s i ≡ x → Outdone al s i g true → Taken al s t x g true
-taken_improved {G} al l s t i x g kept is within rows_fit grades_fit same out =
-    subst (λ (z : State G). Taken al s z x g true) (sym is) (record {
-      grown = improved_grown s i g kept (omega arith) (omega arith) out.0;
-      apart = improved_apart s i g kept (omega arith) (omega arith);
-      only = λ k low h. absurd (let z : ⊥ = omega arith in z);
-      best = λ _. improved_best s i g kept (omega arith) (omega arith) al l x within same out.0 out.1;
-      refused = λ e. absurd (both_ways true e refl);
-    })
+  rows_in : s.len < length s.rows
+  rows_in = grind (arith, nat_tests)
 
-pub taken_left : {G : Type 0} (al : Algebra G) (s : State G) (i : ℕ) (x : Statement) (g : G) → i < s.len → statement_at s i ≡ x → ((row_at s i).place ≡ None → (d : G) → al.no_worse (get_or s.grades i d) g ≡ true) → Taken al s s x g true
-taken_left al s i x g within is good = record {
-  grown = grown_refl s;
-  apart = λ h. h;
-  only = λ k low h. absurd (let z : ⊥ = omega arith in z);
-  best = λ _. left_best al s x g i within is good;
-  refused = λ e. absurd (both_ways true e refl);
-}
+  grades_in : s.len < length s.grades
+  grades_in = grind (arith, nat_tests)
 
-pub keeps_pushed : {G : Type 0} (al : Algebra G) (s t : State G) (r : Bool) (x : Row) (g : G) → r ≡ has_room s → t ≡ cond r (pushed s x g) s → Keeps al s t x.statement g x.kept
-keeps_pushed {G} al s t true x g room is =
-    let rows_in : s.len < length s.rows = grind (arith, nat_tests) in
-    let grades_in : s.len < length s.grades = grind (arith, nat_tests) in
-    subst (λ (z : State G). Keeps al s z x.statement g x.kept) (sym is) (pushed_right s x g rows_in grades_in al)
-keeps_pushed {G} al s t false x g room is = subst (λ (z : State G). Keeps al s z x.statement g x.kept) (sym is) (λ base l right all. all)
+  pub taken_pushed : Laws al → x.place ≡ None → Absent s x.statement → (PlayedBut al m s.len → Played al t) → Taken al s t x.statement g true
+  taken_pushed l un absent played = record {
+    grown = grown_trans (pushed_grown s x g rows_in grades_in un) (but_grown from_pushed);
+    apart = λ h. but_apart from_pushed (pushed_apart s x g rows_in grades_in absent h);
+    only = λ k low h. let e = from_pushed.len in but_statement from_pushed k ∙ statement_new s x g rows_in grades_in k (omega arith);
+    ranked = λ _ offered r. record {
+        best = but_best from_pushed al _ (pushed_best s x g rows_in grades_in al l absent offered r.best);
+        played = played (subst (λ (z : State G). PlayedBut al z s.len) (sym is) (touched_played al s (pushed s x g) s.len (pushed_touched s x g rows_in grades_in) r.played));
+      };
+    refused = λ e. absurd (both_ways true e refl);
+  }
 
-pub keeps_improved : {G : Type 0} (al : Algebra G) (s t : State G) (i : ℕ) (x : Statement) (g : G) (kept : Kept) → t ≡ improved s i g kept → i < s.len → s.len ≤ length s.rows → s.len ≤ length s.grades → statement_at s i ≡ x → Keeps al s t x g kept
-keeps_improved {G} al s t i x g kept is within rows_fit grades_fit same =
-    subst (λ (z : State G). Keeps al s z x g kept) (sym is) (improved_right s i g kept (omega arith) (omega arith) al x same)
+  pub keeps_pushed : Keeps al s t x.statement g x.kept
+  keeps_pushed base l right all = but_right from_pushed al base l (pushed_right s x g rows_in grades_in al base l right all)
+
+-- a better grade, and the winners found anew
+module _ {G : Type 0} (al : Algebra G) (s m t : State G) (i : ℕ) (x : Statement) (g : G) (kept : Kept) (is : m ≡ improved s i g kept) (but : ButWinners m t)
+    (within : i < s.len) (rows_fit : s.len ≤ length s.rows) (grades_fit : s.len ≤ length s.grades) (same : statement_at s i ≡ x) where
+  from_improved : ButWinners (improved s i g kept) t
+  from_improved = subst (λ (z : State G). ButWinners z t) is but
+
+  in_rows : i < length s.rows
+  in_rows = omega arith
+
+  in_grades : i < length s.grades
+  in_grades = omega arith
+
+  pub taken_improved : Laws al → Outdone al s i g true → (PlayedBut al m i → Played al t) → Taken al s t x g true
+  taken_improved l out played = record {
+    grown = grown_trans (improved_grown s i g kept in_rows in_grades out.0) (but_grown from_improved);
+    apart = λ h. but_apart from_improved (improved_apart s i g kept in_rows in_grades h);
+    only = λ k low h. let e = from_improved.len in absurd (let z : ⊥ = omega arith in z);
+    ranked = λ _ offered r. record {
+        best = but_best from_improved al _ (improved_best s i g kept in_rows in_grades al l x within same out.0 out.1 offered r.best);
+        played = played (subst (λ (z : State G). PlayedBut al z i) (sym is) (touched_played al s (improved s i g kept) i (improved_touched s i g kept in_rows in_grades) r.played));
+      };
+    refused = λ e. absurd (both_ways true e refl);
+  }
+
+  pub keeps_improved : Keeps al s t x g kept
+  keeps_improved base l right all = but_right from_improved al base l (improved_right s i g kept in_rows in_grades al x same base l right all)
+
+-- nothing is written
+module _ {G : Type 0} (al : Algebra G) (s : State G) (x : Statement) (g : G) where
+  pub taken_left : (i : ℕ) → i < s.len → statement_at s i ≡ x → ((row_at s i).place ≡ None → (d : G) → al.no_worse (get_or s.grades i d) g ≡ true) → Taken al s s x g true
+  taken_left i within is good = record {
+    grown = grown_refl s;
+    apart = λ h. h;
+    only = λ k low h. absurd (let z : ⊥ = omega arith in z);
+    ranked = λ _ offered r. record { best = left_best al s x g i within is good offered r.best; played = r.played };
+    refused = λ e. absurd (both_ways true e refl);
+  }
+
+  pub taken_refused : has_room s ≡ false → Absent s x → Taken al s s x g false
+  taken_refused none absent = record {
+    grown = grown_refl s;
+    apart = λ h. h;
+    only = λ k low h. absurd (let z : ⊥ = omega arith in z);
+    ranked = λ e. absurd (both_ways false refl e);
+    refused = λ _. (refl, none, absent);
+  }
+
+pub keeps_same : {G : Type 0} (al : Algebra G) (s t : State G) (x : Statement) (g : G) (step : Kept) → t ≡ s → Keeps al s t x g step
+keeps_same al s t x g step is = subst (λ z. Keeps al s z x g step) (sym is) (λ base l right all. all)

@@ -5,38 +5,40 @@ use Rattle.std.proofs.lemmas.Bool.Decides.{eqb_tells}
 use Rattle.saturation.specs.declared.row.Row.{Row}
 use Rattle.saturation.specs.declared.table.Table.{Table}
 use Rattle.saturation.specs.Phases.{is_begun}
-use Rattle.saturation.specs.Rows.{no_row, TurnsWithin, Unmarked}
+use Rattle.saturation.specs.Rows.{no_row, TurnsWithin, Unmarked, WinnersWithin}
 use Rattle.saturation.specs.Chains.{last_in}
 use Rattle.saturation.specs.Buckets.{bucket_of, bucket_at, Indexed, entered}
 use Rattle.saturation.specs.declared.side.Spot.{Spot}
 use Rattle.saturation.specs.declared.side.Side.{Side}
 use Rattle.saturation.specs.declared.side.Side.TheVariants.{Source, Target, Inner}
 use Rattle.saturation.specs.Sides.{key_of, chain_of, Sided, spot_of, placed, turned, settled_rows}
-use Rattle.saturation.proofs.Writing.{write_leaves, turns_written, marks_written}
+use Rattle.saturation.proofs.Writing.{write_leaves, turns_written, marks_written, winners_written}
 use Rattle.saturation.proofs.Indexing.{index_kept, entered_long, entered_old, entered_new, entered_same, entered_index}
-use Rattle.saturation.proofs.Siding.{Apart, key_below, sides_kept, sides_apart, spots_are, statement_apart, mark_apart, index_apart, settled_long, settled_leaves, turn_old, turn_new, settled_sides}
+use Rattle.saturation.proofs.Siding.{Apart, key_below, sides_kept, sides_apart, spots_are, statement_apart, mark_apart, winner_apart, index_apart, settled_long, settled_leaves, turn_old, turn_new, settled_sides}
 
 pub record RowFacts (rows : List Row) (settled len : ℕ) (begun : Bool) : Type 0 where
   pub fits : len ≤ length rows
   pub turns : TurnsWithin rows settled len
   pub marks : Unmarked rows len begun
+  pub winners : WinnersWithin rows len
   pub index : Indexed rows len
   pub sides : Sided rows settled
 
 pub facts_of : {G : Type 0} (t : Table G) → RowFacts t.rows.now t.settled t.len (is_begun t.phase)
-facts_of t = record { fits = t.rows_fit; turns = t.turns; marks = t.marks; index = t.index; sides = t.sides }
+facts_of t = record { fits = t.rows_fit; turns = t.turns; marks = t.marks; winners = t.winners; index = t.index; sides = t.sides }
 
 module _ (rows : List Row) (settled len : ℕ) (begun : Bool) (f : RowFacts rows settled len begun) where
   -- one row written that keeps these columns; marks are free where no run is begun
   pub set_facts : (i : ℕ) (r : Row) → i < length rows → r.statement ≡ (get_or rows i no_row).statement → r.turn ≡ (get_or rows i no_row).turn →
-      r.index ≡ (get_or rows i no_row).index → ((side : Side) → chain_of side r ≡ chain_of side (get_or rows i no_row)) → (begun ≡ true → r.mark ≡ (get_or rows i no_row).mark) → RowFacts (set rows i r) settled len begun
-  set_facts i r within statement turn chain sides mark =
+      r.index ≡ (get_or rows i no_row).index → ((side : Side) → chain_of side r ≡ chain_of side (get_or rows i no_row)) → (begun ≡ true → r.mark ≡ (get_or rows i no_row).mark) → (i < len → r.winner < len) → RowFacts (set rows i r) settled len begun
+  set_facts i r within statement turn chain sides mark winner =
       let fits = f.fits in
       let long = length-set rows i r in
       record {
         fits = omega arith;
         turns = turns_written rows i r within settled len turn f.turns;
         marks = λ on. marks_written rows i r within len begun (mark on) f.marks on;
+        winners = winners_written rows i r within len winner f.winners;
         index = index_kept rows (set rows i r) long len (write_leaves rows i r within (λ (w : Row). w.statement) statement) (write_leaves rows i r within (λ (w : Row). w.index) chain) f.index;
         sides = sides_kept rows (set rows i r) long settled
             (λ k h.
@@ -80,6 +82,7 @@ module _ (rows : List Row) (settled len : ℕ) (begun : Bool) (f : RowFacts rows
               (λ n. let ne = n.1 in subst (λ (t : ℕ). t < len) (sym (turn_old rows settled i source target inner in_n in_i in_source in_target in_inner k ne)) (f.turns k (omega arith)))
               (eqb_tells k settled);
           marks = λ on k h. left (λ r. r.mark) mark_apart (λ r p. refl) refl k ∙ f.marks on k h;
+          winners = λ k h. subst (λ (w : ℕ). w < len) (sym (left (λ r. r.winner) winner_apart (λ r p. refl) refl k)) (f.winners k h);
           index = index_kept rows new long len (left (λ r. r.statement) statement_apart (λ r p. refl) refl) (left (λ r. r.index) index_apart (λ r p. refl) refl) f.index;
           sides = settled_sides rows settled i source target inner in_n in_i in_source in_target in_inner
               (spots_are rows settled i source target inner in_n in_i in_source in_target in_inner (λ side. spot_of side rows settled (key_of side (get_or rows i no_row).statement)) a b c)
@@ -88,8 +91,8 @@ module _ (rows : List Row) (settled len : ℕ) (begun : Bool) (f : RowFacts rows
 
   -- one row more
   pub entered_facts : (x : Row) (b : ℕ) → b ≡ bucket_of (length rows) x.statement → len < length rows → settled ≤ len →
-      x.mark ≡ false → x.index.head ≡ (get_or rows len no_row).index.head → x.index.link ≡ last_in (bucket_at rows) b len → x.turn ≡ (get_or rows len no_row).turn → ((side : Side) → chain_of side x ≡ chain_of side (get_or rows len no_row)) → RowFacts (entered rows len x b) settled (len + 1) begun
-  entered_facts x b is within low mark head link turn sides =
+      x.mark ≡ false → x.winner ≡ len → x.index.head ≡ (get_or rows len no_row).index.head → x.index.link ≡ last_in (bucket_at rows) b len → x.turn ≡ (get_or rows len no_row).turn → ((side : Side) → chain_of side x ≡ chain_of side (get_or rows len no_row)) → RowFacts (entered rows len x b) settled (len + 1) begun
+  entered_facts x b is within low mark winner head link turn sides =
       let long = entered_long rows len x b is within in
       record {
         fits = omega arith;
@@ -101,6 +104,11 @@ module _ (rows : List Row) (settled len : ℕ) (begun : Bool) (f : RowFacts rows
             ⊎_elim
             (λ t. ap (λ (j : ℕ). (get_or (entered rows len x b) j no_row).mark) t.1 ∙ entered_new rows len x b is within (λ (r : Row). r.mark) (λ r k. refl) ∙ mark)
             (λ n. let ne = n.1 in entered_old rows len x b is within (λ (r : Row). r.mark) (λ r k. refl) k ne ∙ f.marks on k (omega arith))
+            (eqb_tells k len);
+        winners = λ k h.
+            ⊎_elim
+            (λ t. let e = ap (λ (j : ℕ). (get_or (entered rows len x b) j no_row).winner) t.1 ∙ entered_new rows len x b is within (λ (r : Row). r.winner) (λ r k. refl) in omega (arith, winner))
+            (λ n. let ne = n.1 in let e = entered_old rows len x b is within (λ (r : Row). r.winner) (λ r k. refl) k ne in let w = f.winners k (omega arith) in omega arith)
             (eqb_tells k len);
         index = entered_index rows len x b is within head link f.index;
         sides = sides_kept rows (entered rows len x b) long settled

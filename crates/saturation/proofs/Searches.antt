@@ -7,7 +7,7 @@ use Rattle.standpoint.specs.Rules.{Rule}
 use Rattle.saturation.specs.declared.row.Kept.{Kept}
 use Rattle.saturation.specs.Tables.{State, statement_at, Absent, has_room}
 use Rattle.saturation.specs.Places.{Step, StandAt, statements_of, grades_of, joined, kept_of, kept_step}
-use Rattle.saturation.specs.Offering.{BestOf, Taken, Keeps}
+use Rattle.saturation.specs.Offering.{Ranked, Taken, Keeps}
 use Rattle.saturation.specs.Searching.{Lists, Enumerated, Went}
 use Rattle.saturation.proofs.Offers.{grown_refl, grown_trans, below_or, last_or}
 use Rattle.saturation.proofs.Lists.{in_append_left, in_append_right, in_append_cases, Fit, lists_grown}
@@ -25,21 +25,21 @@ module _ {G : Type 0} (al : Algebra G) where
   enum_then : (s t u : State G) (A B May : Statement × G → Type 0) → Enumerated al s t A May → Enumerated al t u B May → Enumerated al s u (λ o. A o ⊎ B o) May
   enum_then s t u A B May x y = record {
     os = y.os ++ x.os;
-    best = λ off b. subst (BestOf al u) (sym (append_assoc y.os x.os off)) (y.best (x.os ++ off) (x.best off b));
+    ranked = λ off b. subst (Ranked al u) (sym (append_assoc y.os x.os off)) (y.ranked (x.os ++ off) (x.ranked off b));
     sound = λ o m. ⊎_elim (y.sound o) (x.sound o) (in_append_cases y.os x.os o m);
     complete = λ o. ⊎_elim (λ a. in_append_right y.os x.os o (x.complete o a)) (λ b. in_append_left y.os x.os o (y.complete o b));
   }
 
   enum_as : (s t : State G) (A B May May' : Statement × G → Type 0) → ((o : Statement × G) → B o → A o) → ((o : Statement × G) → May o → May' o) → Enumerated al s t A May → Enumerated al s t B May'
-  enum_as s t A B May May' f m e = record { os = e.os; best = e.best; sound = λ o i. m o (e.sound o i); complete = λ o b. e.complete o (f o b) }
+  enum_as s t A B May May' f m e = record { os = e.os; ranked = e.ranked; sound = λ o i. m o (e.sound o i); complete = λ o b. e.complete o (f o b) }
 
   enum_none : (s : State G) (A May : Statement × G → Type 0) → ((o : Statement × G) → A o → ⊥) → Enumerated al s s A May
-  enum_none s A May never = record { os = []; best = λ off b. b; sound = λ o i. absurd i; complete = λ o a. never o a }
+  enum_none s A May never = record { os = []; ranked = λ off b. b; sound = λ o i. absurd i; complete = λ o a. never o a }
 
   enum_one : (s t : State G) (o : Statement × G) (A May : Statement × G → Type 0) → Taken al s t o.0 o.1 true → ((v : Statement × G) → A v → o ≡ v) → May o → Enumerated al s t A May
   enum_one s t o A May taken only may = record {
     os = o ∷ [];
-    best = λ off b. taken.best refl off b;
+    ranked = λ off b. taken.ranked refl off b;
     sound = λ v. ⊎_elim (λ e. subst May e may) (λ i. absurd i);
     complete = λ v a. inl (only v a);
   }

@@ -16,7 +16,8 @@ use Rattle.saturation.specs.Places.{KeptRight}
 use Rattle.saturation.specs.Offering.{Apart, BestOf, Grown, RowsRight, Explained}
 use Rattle.saturation.specs.Searching.{Premise, Lists}
 use Rattle.saturation.proofs.Offers.{last_or, equal_or, not_both, in_same}
-use Rattle.saturation.proofs.Siding.{key_below, kept_apart, settled_long, settled_leaves, settled_statement, turn_old, turn_new, place_old, place_new}
+use Rattle.saturation.proofs.Siding.{key_below, kept_apart, winner_apart, settled_long, settled_leaves, settled_statement, turn_old, turn_new, place_old, place_new}
+use Rattle.saturation.proofs.Rematching.{Touched}
 use Rattle.saturation.proofs.Lists.{Fit, turn_kept}
 use Rattle.saturation.proofs.Stepping.{kept_up}
 
@@ -119,6 +120,14 @@ module _ {G : Type 0} (s : State G) (i : ℕ) (within : i < s.len) (rows_fit : s
         from = λ j h z d. in_same off (statement_at s j) (statement_at t j) (get_or s.grades j d) (get_or s.grades j d) (sym (settled_statements j)) refl (b.from j h (was j z) d);
         best = λ j h z g m d. b.best j h (was j z) g (in_same off (statement_at t j) (statement_at s j) g g (settled_statements j) refl m) d;
       }
+
+  pub settled_touched : Touched s (settled_row s i) i
+  settled_touched = record {
+    more = omega arith;
+    old = λ j h ne. h;
+    winners = λ j h ne. settled_leaves s.rows s.settled i (spot_at Source s i) (spot_at Target s i) (spot_at Inner s i) in_n in_i (in_spot Source) (in_spot Target) (in_spot Inner) (λ (r : Row). r.winner) winner_apart (λ r p. refl) refl j;
+    plays = λ j h ne. record { place = place_before j ne; statement = settled_statements j; grade = λ d. refl };
+  }
 
   settled_kept : (j : ℕ) → (row_at (settled_row s i) j).kept ≡ (row_at s j).kept
   settled_kept = settled_leaves s.rows s.settled i (spot_at Source s i) (spot_at Target s i) (spot_at Inner s i) in_n in_i (in_spot Source) (in_spot Target) (in_spot Inner) (λ (r : Row). r.kept) kept_apart (λ r p. refl) refl

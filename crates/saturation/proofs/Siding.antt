@@ -79,6 +79,11 @@ mark_apart Source r j = refl
 mark_apart Target r j = refl
 mark_apart Inner r j = refl
 
+pub winner_apart : Apart (λ r. r.winner)
+winner_apart Source r j = refl
+winner_apart Target r j = refl
+winner_apart Inner r j = refl
+
 pub index_apart : Apart (λ r. r.index)
 index_apart Source r j = refl
 index_apart Target r j = refl

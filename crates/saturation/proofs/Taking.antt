@@ -4,61 +4,75 @@ use Rattle.standpoint.specs.declared.statement.Statement.{Statement}
 use Rattle.standpoint.specs.Algebra.{Algebra, Laws}
 use Rattle.saturation.specs.Tables.{State, statement_at, OpenAt, settled_row}
 use Rattle.saturation.specs.Places.{Uses}
-use Rattle.saturation.specs.Offering.{Apart, BestOf, RowsRight, Explained}
+use Rattle.saturation.specs.Offering.{Ranked, Grown}
 use Rattle.saturation.specs.Searching.{Lists, Enumerated, Stuck, Went}
-use Rattle.saturation.specs.Choosing.{Chosen}
+use Rattle.saturation.specs.Choosing.{Picked, Chosen}
+use Rattle.saturation.specs.Tournament.{Played, PlayedBut, ButWinners}
 use Rattle.saturation.specs.Turns.{TookTurn}
 use Rattle.saturation.proofs.Lists.{Fit, lists_grown}
+use Rattle.saturation.proofs.Rematching.{touched_played}
+use Rattle.saturation.proofs.Winners.{but_grown, but_apart, but_best, but_right}
+use Rattle.saturation.proofs.Offers.{grown_trans}
 use Rattle.saturation.proofs.Stepping.{value_at}
 use Rattle.saturation.proofs.Opening.{next_chosen, open_room}
-use Rattle.saturation.proofs.Settling.{settled_rows_long, settled_lists, settled_best, settled_apart, settled_statements, settled_right, settled_explained, explained_grown}
+use Rattle.saturation.proofs.Settling.{settled_rows_long, settled_lists, settled_best, settled_touched, settled_apart, settled_statements, settled_right, settled_explained, explained_grown}
 
-module _ {G : Type 0} (al : Algebra G) (laws : Laws al) (v : ℕ) (s m t : State G) (i : ℕ) (b : Bool) (fit : Fit s) (fit_m : Fit m)
+-- row i is settled, the winners are found anew, and a search follows
+module _ {G : Type 0} (al : Algebra G) (laws : Laws al) (v : ℕ) (s m n t : State G) (i : ℕ) (b : Bool) (fit : Fit s) (fit_m : Fit m)
     (rows_fit : s.len ≤ length s.rows) (grades_fit : s.len ≤ length s.grades) (room : s.settled < s.len)
-    (chosen : Chosen al s s.len (Some i)) (is : m ≡ settled_row s i)
-    (went : Went al v m t (λ l. Uses al v l s.settled) (λ l. Uses al v l s.settled) b) where
+    (picked : Picked s (Some i)) (first : Played al s → Chosen al s s.len (Some i)) (is : m ≡ settled_row s i)
+    (but : ButWinners m n) (again : PlayedBut al m i → Played al n)
+    (went : Went al v n t (λ l. Uses al v l s.settled) (λ l. Uses al v l s.settled) b) where
   within : i < s.len
-  within = chosen.0
+  within = picked.0
 
-  rows_kept : length t.rows ≡ length s.rows
-  rows_kept = went.grown.rows_long ∙ ap (λ (z : State G). length z.rows) is ∙ settled_rows_long s i within rows_fit room
+  settled_fit : Fit (settled_row s i)
+  settled_fit = subst Fit is fit_m
 
-  grades_kept : length t.grades ≡ length s.grades
-  grades_kept = went.grown.grades_long ∙ ap (λ (z : State G). length z.grades) is
+  from_settled : ButWinners (settled_row s i) n
+  from_settled = subst (λ (z : State G). ButWinners z n) is but
 
-  len_m : m.len ≡ s.len
-  len_m = ap (λ (z : State G). z.len) is
+  settled_grown : Grown (settled_row s i) n
+  settled_grown = but_grown from_settled
+
+  grown : Grown (settled_row s i) t
+  grown = grown_trans settled_grown went.grown
+
+  ranked : (off : List (Statement × G)) → Ranked al s off → Ranked al n off
+  ranked off r = record {
+    best = but_best from_settled al off (settled_best s i within rows_fit room al off r.best);
+    played = again (subst (λ (z : State G). PlayedBut al z i) (sym is) (touched_played al s (settled_row s i) i (settled_touched s i within rows_fit room) r.played));
+  }
 
   pub took_turn : TookTurn al v s t b
   took_turn =
       let g = value_at s.grades i (omega arith) in
       let o : Statement × G = (statement_at s i, g.0) in
-      let same_len = len_m in
-      let listed : (l : List (Statement × G)) → Lists s l → Lists m (l ++ o ∷ []) =
-      λ l old. subst (λ (z : State G). Lists z (l ++ o ∷ [])) (sym is) (settled_lists s i within rows_fit room l g.0 chosen.1 g.1 old) in
-      let kept : (off : List (Statement × G)) → BestOf al s off → BestOf al m off =
-      λ off best. subst (λ (z : State G). BestOf al z off) (sym is) (settled_best s i within rows_fit room al off best) in
+      let more = grown.more in
+      let listed : (l : List (Statement × G)) → Lists s l → Lists (settled_row s i) (l ++ o ∷ []) = λ l old. settled_lists s i within rows_fit room l g.0 picked.1 g.1 old in
+      let relisted : (l : List (Statement × G)) → Lists s l → Lists n (l ++ o ∷ []) = λ l old. lists_grown (settled_row s i) n (l ++ o ∷ []) settled_fit settled_grown (listed l old) in
       record {
         o = o;
-        long = went.grown.settled ∙ ap (λ (z : State G). z.settled) is;
-        grown_len = let h = went.grown.more in omega arith;
-        rows_long = rows_kept;
-        grades_long = grades_kept;
-        next = λ l off old best. next_chosen s l old al laws (λ k h. omega arith) off fit best i g.0 chosen g.1;
-        lists = λ l old. lists_grown m t (l ++ o ∷ []) fit_m went.grown (listed l old);
-        apart = λ h. went.apart (subst Apart (sym is) (settled_apart s i within rows_fit room h));
-        old = λ k h. went.grown.statements k (omega arith) ∙ ap (λ (z : State G). statement_at z k) is ∙ settled_statements s i within rows_fit room k;
+        long = grown.settled;
+        grown_len = grown.more;
+        rows_long = grown.rows_long ∙ settled_rows_long s i within rows_fit room;
+        grades_long = grown.grades_long;
+        next = λ l off old r. next_chosen s l old al laws (λ k h. omega arith) off fit r.best i g.0 (first r.played) g.1;
+        lists = λ l old. lists_grown (settled_row s i) t (l ++ o ∷ []) settled_fit grown (listed l old);
+        apart = λ h. went.apart (but_apart from_settled (settled_apart s i within rows_fit room h));
+        old = λ k h. grown.statements k h ∙ settled_statements s i within rows_fit room k;
         new = λ l old k low h.
-            let u = went.new (l ++ o ∷ []) (listed l old) k (omega arith) h in
-            (u.0, subst (λ (n : ℕ). Uses al v (l ++ o ∷ []) n (statement_at t k, u.0)) (sym old.long) u.1);
+            let e = from_settled.len in
+            let u = went.new (l ++ o ∷ []) (relisted l old) k (omega arith) h in
+            (u.0, subst (λ (j : ℕ). Uses al v (l ++ o ∷ []) j (statement_at t k, u.0)) (sym old.long) u.1);
         all = λ e l old.
-            let en = subst (λ (n : ℕ). Enumerated al m t (Uses al v (l ++ o ∷ []) n) (Uses al v (l ++ o ∷ []) n)) (sym old.long) (went.all e (l ++ o ∷ []) (listed l old)) in
-            record { os = en.os; best = λ off best. en.best off (kept off best); sound = en.sound; complete = en.complete };
-        stuck = λ e l old. subst (λ (n : ℕ). Stuck t (Uses al v (l ++ o ∷ []) n)) (sym old.long) (went.stuck e (l ++ o ∷ []) (listed l old));
+            let en = subst (λ (j : ℕ). Enumerated al n t (Uses al v (l ++ o ∷ []) j) (Uses al v (l ++ o ∷ []) j)) (sym old.long) (went.all e (l ++ o ∷ []) (relisted l old)) in
+            record { os = en.os; ranked = λ off r. en.ranked off (ranked off r); sound = en.sound; complete = en.complete };
+        stuck = λ e l old. subst (λ (j : ℕ). Stuck t (Uses al v (l ++ o ∷ []) j)) (sym old.long) (went.stuck e (l ++ o ∷ []) (relisted l old));
         keeps = λ base e l old right explained.
-            let right_m = subst (λ (z : State G). RowsRight al base (l ++ o ∷ []) z) (sym is) (settled_right s i within rows_fit room al base l o right) in
-            let explained_m = subst (λ (z : State G). Explained al base (l ++ o ∷ []) z) (sym is) (settled_explained s i within rows_fit room al base l g.0 chosen.1 g.1 old right explained) in
-            (went.keeps base e (l ++ o ∷ []) (listed l old) right_m, explained_grown al m t base (l ++ o ∷ []) fit_m went.grown (listed l old) explained_m);
+            let right_n = but_right from_settled al base (l ++ o ∷ []) (settled_right s i within rows_fit room al base l o right) in
+            let explained_m = settled_explained s i within rows_fit room al base l g.0 picked.1 g.1 old right explained in
+            (went.keeps base e (l ++ o ∷ []) (relisted l old) right_n, explained_grown al (settled_row s i) t base (l ++ o ∷ []) settled_fit grown (listed l old) explained_m);
       }
 
 -- as many turns as rows leave no row unsettled

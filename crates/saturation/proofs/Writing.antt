@@ -2,7 +2,7 @@
 use Rattle.std.proofs.Common.{◌≡◌, ℕ, ◌<◌, Bool, List, length, get_or, slice_set, sym, ap, ◌∙◌, subst, ⊎_elim, get_or-set_other, get_or-set_same}
 use Rattle.std.proofs.lemmas.Bool.Decides.{eqb_tells}
 use Rattle.saturation.specs.declared.row.Row.{Row}
-use Rattle.saturation.specs.Rows.{no_row, TurnsWithin, Unmarked}
+use Rattle.saturation.specs.Rows.{no_row, TurnsWithin, Unmarked, WinnersWithin}
 
 module _ (rows : List Row) (k : ℕ) (r : Row) (within : k < length rows) where
   pub write_here : get_or (slice_set rows k r) k no_row ≡ r
@@ -23,3 +23,10 @@ module _ (rows : List Row) (k : ℕ) (r : Row) (within : k < length rows) where
 
   pub marks_written : (len : ℕ) (begun : Bool) → r.mark ≡ (get_or rows k no_row).mark → Unmarked rows len begun → Unmarked (slice_set rows k r) len begun
   marks_written len begun same marks on j below = write_leaves (λ (v : Row). v.mark) same j ∙ marks on j below
+
+  pub winners_written : (len : ℕ) → (k < len → r.winner < len) → WinnersWithin rows len → WinnersWithin (slice_set rows k r) len
+  winners_written len new winners j below =
+      ⊎_elim
+      (λ e. subst (λ (v : Row). v.winner < len) (sym (ap (λ (i : ℕ). get_or (slice_set rows k r) i no_row) e.1 ∙ write_here)) (new (subst (λ (i : ℕ). i < len) e.1 below)))
+      (λ ne. subst (λ (v : Row). v.winner < len) (sym (write_other j ne.1)) (winners j below))
+      (eqb_tells j k)

@@ -23,3 +23,8 @@ RowAhead a s i j = RowsAhead a s.rows s.grades i j
 abbrev pub Chosen : {G : Type 0} → Algebra G → State G → ℕ → Option ℕ → Type 0
 Chosen a s n None = (k : ℕ) → k < n → OpenAt s k → ⊥
 Chosen a s n (Some i) = (i < n) × OpenAt s i × ((k : ℕ) → k < n → OpenAt s k → RowAhead a s k i → ⊥)
+
+-- an unsettled row, if any
+abbrev pub Picked : {G : Type 0} → State G → Option ℕ → Type 0
+Picked s None = Unit {0}
+Picked s (Some i) = (i < s.len) × OpenAt s i

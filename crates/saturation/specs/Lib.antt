@@ -9,5 +9,6 @@ pub mod Places
 pub mod Offering
 pub mod Searching
 pub mod Choosing
+pub mod Tournament
 pub mod Turns
 pub mod Saturation

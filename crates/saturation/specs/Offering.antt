@@ -6,6 +6,7 @@ use Rattle.standpoint.specs.Algebra.{Algebra, NoWorse}
 use Rattle.standpoint.specs.Derivations.{Base}
 use Rattle.saturation.specs.declared.row.Kept.{Kept}
 use Rattle.saturation.specs.Tables.{State, row_at, statement_at, turn_at, OpenAt, Present, Absent, has_room}
+use Rattle.saturation.specs.Tournament.{Played}
 use Rattle.saturation.specs.Places.{KeptRight}
 
 -- no statement stands in two taken rows
@@ -17,6 +18,11 @@ pub record BestOf {G : Type 0} (a : Algebra G) (s : State G) (offered : List (St
   pub every : (x : Statement) (g : G) → In offered (x, g) → Present s x
   pub from : (i : ℕ) → i < s.len → OpenAt s i → (d : G) → In offered (statement_at s i, slice_index_or s.grades i d)
   pub best : (i : ℕ) → i < s.len → OpenAt s i → (g : G) → In offered (statement_at s i, g) → (d : G) → NoWorse a (slice_index_or s.grades i d) g
+
+-- the same, and each row names the winner below it
+pub record Ranked {G : Type 0} (a : Algebra G) (s : State G) (offered : List (Statement × G)) : Type 0 where
+  pub best : BestOf a s offered
+  pub played : Played a s
 
 -- nothing that stood in a taken row is lost, and a settled row keeps its step and its grade
 pub record Grown {G : Type 0} (s t : State G) : Type 0 where
@@ -35,7 +41,7 @@ pub record Taken {G : Type 0} (a : Algebra G) (s t : State G) (x : Statement) (g
   pub grown : Grown s t
   pub apart : Apart s → Apart t
   pub only : (k : ℕ) → s.len ≤ k → k < t.len → statement_at t k ≡ x
-  pub best : r ≡ true → (offered : List (Statement × G)) → BestOf a s offered → BestOf a t ((x, g) ∷ offered)
+  pub ranked : r ≡ true → (offered : List (Statement × G)) → Ranked a s offered → Ranked a t ((x, g) ∷ offered)
   pub refused : r ≡ false → (t ≡ s) × (has_room s ≡ false) × Absent s x
 
 -- row i is unsettled, and g is better than its grade

@@ -22,6 +22,7 @@ no_row = record {
   place = None;
   turn = 0;
   mark = false;
+  winner = 0;
   index = no_chain;
   source = no_chain;
   target = no_chain;
@@ -35,3 +36,7 @@ TurnsWithin rows settled len = (k : ℕ) → k < settled → (slice_index_or row
 -- no mark stands in a taken row of a table that is begun
 abbrev pub Unmarked : List Row → ℕ → Bool → Type 0
 Unmarked rows len begun = begun ≡ true → (k : ℕ) → k < len → (slice_index_or rows k no_row).mark ≡ false
+
+-- each taken row names a taken row as its winner
+abbrev pub WinnersWithin : List Row → ℕ → Type 0
+WinnersWithin rows len = (k : ℕ) → k < len → (slice_index_or rows k no_row).winner < len

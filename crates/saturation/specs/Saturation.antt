@@ -10,15 +10,15 @@ use Rattle.runs.specs.declared.Stand.TheVariants.{Open, Ended, Full}
 use Rattle.saturation.specs.declared.turn.Turn.{Turn}
 use Rattle.saturation.specs.declared.turn.Turn.TheVariants as turn
 use Rattle.saturation.specs.Tables.{State, capacity}
-use Rattle.saturation.specs.Offering.{Apart, BestOf, RowsRight, Explained}
+use Rattle.saturation.specs.Offering.{Apart, Ranked, RowsRight, Explained}
 use Rattle.saturation.specs.Searching.{Lists}
 
--- the rows hold what the run settled, in order, and all that it offers, at the best of its grades, with right steps
+-- the rows hold what the run settled, in order, and all that it offers, at the best of its grades, with right steps, and which is next
 pub record Holds {G : Type 0} (a : Algebra G) (base : Base G) (settled : Settled G) (s : State G) : Type 0 where
   pub run : Run a base settled
   pub lists : Lists s settled
   pub offered : List (Statement × G)
-  pub rows : BestOf a s offered
+  pub rows : Ranked a s offered
   pub sound : (o : Statement × G) → In offered o → Offers a base settled o.0 o.1
   pub complete : (x : Statement) (g : G) → Offers a base settled x g → In offered (x, g)
   pub right : RowsRight a base settled s

@@ -10,7 +10,7 @@ use Rattle.saturation.specs.Tables.{State, row_at, statement_at, turn_at, OpenAt
 use Rattle.saturation.specs.declared.lane.Lane.{Lane}
 use Rattle.saturation.specs.Lanes.{Within}
 use Rattle.saturation.specs.Places.{Step}
-use Rattle.saturation.specs.Offering.{Apart, BestOf, Grown, RowsRight}
+use Rattle.saturation.specs.Offering.{Apart, Ranked, Grown, RowsRight}
 
 -- the k-th settled statement with its grade, as the rows have it
 abbrev pub Premise : {G : Type 0} → State G → ℕ → Statement × G → Type 0
@@ -36,7 +36,7 @@ pub record Lists {G : Type 0} (s : State G) (settled : List (Statement × G)) : 
 -- from s to t some list was offered: nothing that is not of May, and everything of Sure
 pub record Enumerated {G : Type 0} (a : Algebra G) (s t : State G) (Sure May : Statement × G → Type 0) : Type 0 where
   pub os : List (Statement × G)
-  pub best : (offered : List (Statement × G)) → BestOf a s offered → BestOf a t (os ++ offered)
+  pub ranked : (offered : List (Statement × G)) → Ranked a s offered → Ranked a t (os ++ offered)
   pub sound : (o : Statement × G) → In os o → May o
   pub complete : (o : Statement × G) → Sure o → In os o
 

@@ -10,7 +10,7 @@ use Rattle.saturation.specs.declared.turn.Turn.{Turn}
 use Rattle.saturation.specs.declared.turn.Turn.TheVariants.{Nothing, Settled, Overflowed}
 use Rattle.saturation.specs.Tables.{State, statement_at, OpenAt}
 use Rattle.saturation.specs.Places.{Uses}
-use Rattle.saturation.specs.Offering.{Apart, BestOf, RowsRight, Explained}
+use Rattle.saturation.specs.Offering.{Apart, Ranked, RowsRight, Explained}
 use Rattle.saturation.specs.Searching.{Lists, Enumerated, Stuck, NewFrom}
 
 -- of all that is offered and unsettled, o has the best grade, and among equals the least statement
@@ -27,7 +27,7 @@ pub record TookTurn {G : Type 0} (a : Algebra G) (individuals : ℕ) (s t : Stat
   pub grown_len : s.len ≤ t.len
   pub rows_long : length t.rows ≡ length s.rows
   pub grades_long : length t.grades ≡ length s.grades
-  pub next : (settled offered : List (Statement × G)) → Lists s settled → BestOf a s offered → FirstOffered a settled offered o
+  pub next : (settled offered : List (Statement × G)) → Lists s settled → Ranked a s offered → FirstOffered a settled offered o
   pub lists : (settled : List (Statement × G)) → Lists s settled → Lists t (settled ++ o ∷ [])
   pub apart : Apart s → Apart t
   pub old : (k : ℕ) → k < s.len → statement_at t k ≡ statement_at s k
@@ -40,6 +40,6 @@ pub record TookTurn {G : Type 0} (a : Algebra G) (individuals : ℕ) (s t : Stat
 
 -- nothing was left to settle, or one was settled, its consequences all offered or not
 abbrev pub Turned : {G : Type 0} → Algebra G → ℕ → State G → State G → Turn → Type 0
-Turned {G} a individuals s t Nothing = (t ≡ s) × ((settled : List (Statement × G)) → Lists s settled → (k : ℕ) → k < s.len → OpenAt s k → ⊥)
+Turned {G} a individuals s t Nothing = (t ≡ s) × ((settled offered : List (Statement × G)) → Lists s settled → Ranked a s offered → (k : ℕ) → k < s.len → OpenAt s k → ⊥)
 Turned a individuals s t Settled = TookTurn a individuals s t true
 Turned a individuals s t Overflowed = TookTurn a individuals s t false

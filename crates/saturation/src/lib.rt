@@ -22,4 +22,5 @@ mod run;
 mod search;
 mod side;
 mod table;
+mod tournament;
 mod turn;

@@ -22,10 +22,14 @@ impl<'a, G: Copy> Table<'a, G> {
         ensures keeps { Keeps (K.Kind.algebra kind.now) (view self.old) (view self.new) statement grade kept }
     {
         let Some(i) = self.find(statement) else {
-            return self.push(statement, kept, grade);
+            let i = self.len;
+            self.push(statement, kept, grade)?;
+            self.rematch(kind, i);
+            return Ok(());
         };
         if self.outdone(kind, i, grade) {
             self.improve(i, grade, kept);
+            self.rematch(kind, i);
         }
         Ok(())
     }

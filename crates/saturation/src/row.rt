@@ -58,6 +58,8 @@ pub struct Row {
     pub turn: usize,
     // A column of its own: stands only while steps are written out.
     pub mark: bool,
+    // A column of its own: in the k-th row, from 0, the winner below it, of the tournament over the taken rows.
+    pub winner: usize,
     // The taken rows, by statement.
     pub index: Chain,
     // The settled statements, by settling place, each by its node on that side.
@@ -74,6 +76,7 @@ impl Row {
         place: None,
         turn: 0,
         mark: false,
+        winner: 0,
         index: Chain::EMPTY,
         source: Chain::EMPTY,
         target: Chain::EMPTY,

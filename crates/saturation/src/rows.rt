@@ -51,6 +51,7 @@ impl<'a, G: Copy> Table<'a, G> {
             kept,
             place: None,
             mark: false,
+            winner: at,
             index: Chain {
                 head: free.index.head,
                 link: self.last_in(bucket),

@@ -31,10 +31,11 @@ impl<'a, G: Copy> Table<'a, G> {
         if newest >= self.len {
             return Turn::Nothing;
         }
-        let Some(i) = self.choose(kind) else {
+        let Some(i) = self.choose() else {
             return Turn::Nothing;
         };
         self.settle_row(i);
+        self.rematch(kind, i);
         match self.search(kind, individuals, newest) {
             Ok(()) => Turn::Settled,
             Err(NoRow) => Turn::Overflowed,

@@ -8,7 +8,10 @@ use Rattle.saturation.proofs.table.Table.settle_one.Goals as goal
 pub returns-then-newest-self-clause-state : goal.returns-then-newest-self-clause-state
 returns-then-newest-self-clause-state g c =
     let t = c.args.self.now in
-    (refl, turns_out (view t) (t.settled_fit, t.turns) c.if-newest-self.true)
+    (refl, λ settled offered lists ranked. turns_out (view t) (t.settled_fit, t.turns) c.if-newest-self.true settled lists)
+
+pub returns-in_default-clause-state : goal.returns-in_default-clause-state
+returns-in_default-clause-state g c = (refl, λ settled offered lists ranked. c.in_default.ensures.first (g.K.Kind.algebra c.args.kind.now) ranked.played)
 
 pub returns-in-Ok-clause-state : goal.returns-in-Ok-clause-state
 returns-in-Ok-clause-state g c =
@@ -16,7 +19,7 @@ returns-in-Ok-clause-state g c =
     let t = c.args.self.now in
     let m = c.settle_row.new.self in
     subst (λ (n : ℕ). Turned (g.K.Kind.algebra k) n (view t) (view c.search.new.self) Settled) c.individuals-individuals.ensures
-    (took_turn (g.K.Kind.algebra k) (g.met.K.Kind.lawful k) c.individuals-individuals.result (view t) (view m) (view c.search.new.self) c.in-Some.i true (t.settled_fit, t.turns) (m.settled_fit, m.turns) t.rows_fit t.grades_fit c.if-newest-self.false c.in-Some.ensures c.settle_row.ensures.state c.in-Ok.ensures.state)
+    (took_turn (g.K.Kind.algebra k) (g.met.K.Kind.lawful k) c.individuals-individuals.result (view t) (view m) (view c.rematch.new.self) (view c.search.new.self) c.in-Some.i true (t.settled_fit, t.turns) (m.settled_fit, m.turns) t.rows_fit t.grades_fit c.if-newest-self.false c.in-Some.ensures.picked (c.in-Some.ensures.first (g.K.Kind.algebra k)) c.settle_row.ensures.state c.rematch.ensures.state c.rematch.ensures.played c.in-Ok.ensures.state)
 
 pub returns-in-Err-clause-state : goal.returns-in-Err-clause-state
 returns-in-Err-clause-state g c =
@@ -24,4 +27,4 @@ returns-in-Err-clause-state g c =
     let t = c.args.self.now in
     let m = c.settle_row.new.self in
     subst (λ (n : ℕ). Turned (g.K.Kind.algebra k) n (view t) (view c.search.new.self) Overflowed) c.individuals-individuals.ensures
-    (took_turn (g.K.Kind.algebra k) (g.met.K.Kind.lawful k) c.individuals-individuals.result (view t) (view m) (view c.search.new.self) c.in-Some.i false (t.settled_fit, t.turns) (m.settled_fit, m.turns) t.rows_fit t.grades_fit c.if-newest-self.false c.in-Some.ensures c.settle_row.ensures.state c.in-Err.ensures.state)
+    (took_turn (g.K.Kind.algebra k) (g.met.K.Kind.lawful k) c.individuals-individuals.result (view t) (view m) (view c.rematch.new.self) (view c.search.new.self) c.in-Some.i false (t.settled_fit, t.turns) (m.settled_fit, m.turns) t.rows_fit t.grades_fit c.if-newest-self.false c.in-Some.ensures.picked (c.in-Some.ensures.first (g.K.Kind.algebra k)) c.settle_row.ensures.state c.rematch.ensures.state c.rematch.ensures.played c.in-Err.ensures.state)

@@ -18,7 +18,7 @@ invariant_of-self g c =
     (c.spot-source.ensures.value ∙ ap (spot_of Source rows t.settled) c.key.ensures)
     (c.spot-target.ensures.value ∙ ap (spot_of Target rows t.settled) c.key-2.ensures)
     (c.spot-inner.ensures.value ∙ ap (spot_of Inner rows t.settled) c.key-3.ensures)) in
-    record { rows_fit = f.fits; grades_fit = t.grades_fit; few = t.few; settled_fit = omega arith; turns = f.turns; marks = f.marks; index = f.index; sides = f.sides }
+    record { rows_fit = f.fits; grades_fit = t.grades_fit; few = t.few; settled_fit = omega arith; turns = f.turns; marks = f.marks; winners = f.winners; index = f.index; sides = f.sides }
 
 pub returns-clause-state : goal.returns-clause-state
 returns-clause-state g c =

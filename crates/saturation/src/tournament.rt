@@ -1,0 +1,101 @@
+// The tournament over the taken rows: row k plays with the winners below rows 2k + 1 and 2k + 2, and the next one to be settled wins
+// below row 0. Where all rows below another are settled, any of them is its winner.
+ghost use Rattle.std.specs.Prelude.{◌≡◌, ◌<◌, ◌⊎◌};
+ghost use Rattle.standpoint.specs.Algebra.{Algebra};
+ghost use Rattle.saturation.specs.Tables.{view, Same};
+ghost use Rattle.saturation.specs.Choosing.{Picked, Chosen};
+ghost use Rattle.saturation.specs.Tournament.{above, Beats, Match, Wins, winner_at, Played, PlayedBut, crowned, ButWinners};
+
+use crate::table::Table;
+use standpoint::Kind;
+
+// The row just above, or none.
+fn above(k: usize) -> Option<usize>
+    ensures { result ≡ above k }
+{
+    match k {
+        0 => None,
+        _ => Some((k - 1) / 2),
+    }
+}
+
+impl<'a, G: Copy> Table<'a, G> {
+    // The unsettled row that is to be settled next, or none.
+    pub(crate) fn choose(&self) -> Option<usize>
+        requires { 0 < self.now.len }
+        ensures picked { Picked (view self.now) result }
+        ensures first { (a : Algebra G) → Played a (view self.now) → Chosen a (view self.now) self.now.len result }
+    {
+        let i = self.rows[0].winner;
+        let place = self.rows[i].place;
+        if place.is_some() { None } else { Some(i) }
+    }
+
+    // Row i is new, or has changed: the winners are found anew below it and below each row that it plays below.
+    pub(crate) fn rematch<K: Kind<Grade = G>>(&mut self, kind: &K, i: usize)
+        requires { i < self.old.len }
+        ensures same { Same self.old self.new }
+        ensures state { ButWinners (view self.old) (view self.new) }
+        ensures played { PlayedBut (K.Kind.algebra kind.now) (view self.old) i → Played (K.Kind.algebra kind.now) (view self.new) }
+    {
+        let mut at = Some(i);
+        while let Some(k) = at {
+            let winner = self.winner_of(kind, k);
+            self.set_winner(k, winner);
+            at = above(k);
+        }
+    }
+
+    // The winner below row k, by those just below it.
+    fn winner_of<K: Kind<Grade = G>>(&self, kind: &K, k: usize) -> usize
+        requires { k < self.now.len }
+        ensures within { result < self.now.len }
+        ensures wins { PlayedBut (K.Kind.algebra kind.now) (view self.now) k → Wins (K.Kind.algebra kind.now) (view self.now) k result }
+    {
+        let winner = self.first_of(kind, k, 2 * k + 1);
+        self.first_of(kind, winner, 2 * k + 2)
+    }
+
+    // Of row i and the winner below row k, if that is taken, the one that goes first.
+    fn first_of<K: Kind<Grade = G>>(&self, kind: &K, i: usize, k: usize) -> usize
+        requires { i < self.now.len }
+        ensures within { result < self.now.len }
+        ensures either { (result ≡ i) ⊎ ((k < self.now.len) × (result ≡ winner_at (view self.now) k)) }
+        ensures first { Beats (K.Kind.algebra kind.now) (view self.now) result i × (k < self.now.len → Beats (K.Kind.algebra kind.now) (view self.now) result (winner_at (view self.now) k)) }
+    {
+        if k >= self.len {
+            return i;
+        }
+        let other = self.rows[k].winner;
+        if self.goes_first(kind, other, i) {
+            other
+        } else {
+            i
+        }
+    }
+
+    // Whether row i goes before row j: a settled one goes last.
+    fn goes_first<K: Kind<Grade = G>>(&self, kind: &K, i: usize, j: usize) -> bool
+        requires { (i < self.now.len) × (j < self.now.len) }
+        ensures { Match (K.Kind.algebra kind.now) (view self.now) i j result }
+    {
+        let place = self.rows[i].place;
+        if place.is_some() {
+            return false;
+        }
+        let place = self.rows[j].place;
+        if place.is_some() {
+            return true;
+        }
+        self.row_ahead(kind, i, j)
+    }
+
+    // Row w is the winner below row k.
+    fn set_winner(&mut self, k: usize, w: usize)
+        requires { (k < self.old.len) × (w < self.old.len) }
+        ensures same { Same self.old self.new }
+        ensures state { view self.new ≡ crowned (view self.old) k w }
+    {
+        self.rows[k].winner = w;
+    }
+}
