@@ -51,6 +51,7 @@ module _ (rows : List Row) (n : ℕ) (fit : n ≤ length rows) (part : List Row)
         fits = omega arith;
         turns = λ k h. subst (λ (t : ℕ). t < len) (sym (cleared_column (λ (r : Row). r.turn) (λ r. refl) k)) (f.turns k h);
         marks = λ on. absurd (both_ways _ off on);
+        winners = λ k h. subst (λ (w : ℕ). w < len) (sym (cleared_column (λ (r : Row). r.winner) (λ r. refl) k)) (f.winners k h);
         index = index_kept rows (part ++ drop n rows) cleared_long len statement (cleared_column (λ (r : Row). r.index) (λ r. refl)) f.index;
         sides = sides_kept rows (part ++ drop n rows) cleared_long n
             (λ k h. ap (λ (j : ℕ). (get_or (part ++ drop n rows) j no_row).statement) (cleared_column (λ (r : Row). r.turn) (λ r. refl) k) ∙ statement (get_or rows k no_row).turn)

@@ -60,7 +60,7 @@ module _ {G : Type 0} (al : Algebra G) (n : Sizes) (s : State G) (k : ℕ) (f : 
       let few = f.few in
       record {
         offered = (x, al.start) ∷ f.offered;
-        rows = taken.best free f.offered f.rows;
+        rows = taken.ranked free f.offered f.rows;
         sound = λ o. ⊎_elim
             (λ e. (subst (Tautology n) (ap (λ (p : Statement × G). p.0) e) truth, sym (ap (λ (p : Statement × G). p.1) e)))
             (λ m. f.sound o m);
@@ -68,7 +68,7 @@ module _ {G : Type 0} (al : Algebra G) (n : Sizes) (s : State G) (k : ℕ) (f : 
             (λ lt. inr (f.complete j y lt at))
             (λ e. inl (same_pair (some_same (sym is ∙ sym (ap (slice_get (tautologies n)) e) ∙ at))))
             (last_or j k h);
-        few = let more = one_row al s t x al.start r taken f.rows.apart in omega arith;
+        few = let more = one_row al s t x al.start r taken f.rows.best.apart in omega arith;
         unsettled = taken.grown.settled ∙ f.unsettled;
         opened = still_open s t taken.grown f.opened;
         right = keeps (empty_base n) [] (kept_tautology refl truth refl) f.right;
@@ -106,7 +106,10 @@ module _ {G : Type 0} (al : Algebra G) (n : Sizes) (s : State G) (k : ℕ) (f : 
 pub filled_none : {G : Type 0} (al : Algebra G) (n : Sizes) (rows : List Row) (grades : List G) → Filled al n (tables.fresh rows grades) 0
 filled_none al n rows grades = record {
   offered = [];
-  rows = record { apart = λ i j h. absurd (let z : ⊥ = omega arith in z); every = λ x g m. absurd m; from = λ i h. absurd (let z : ⊥ = omega arith in z); best = λ i h. absurd (let z : ⊥ = omega arith in z) };
+  rows = record {
+    best = record { apart = λ i j h. absurd (let z : ⊥ = omega arith in z); every = λ x g m. absurd m; from = λ i h. absurd (let z : ⊥ = omega arith in z); best = λ i h. absurd (let z : ⊥ = omega arith in z) };
+    played = λ k h. absurd (let z : ⊥ = omega arith in z);
+  };
   sound = λ o m. absurd m;
   complete = λ j x h. absurd (let z : ⊥ = omega arith in z);
   few = omega arith;

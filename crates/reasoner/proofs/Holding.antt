@@ -32,6 +32,6 @@ held_parts begun sizes range run lists apart explained = record {
 }
 
 pub held : {G : Type 0} {a : Algebra G} {b : Base G} {t : Table G} {l : Settled G} → Holding a b t l → Held a b t l
-held (taking (is, range, h)) = held_parts (ap is_begun is) (ap sizes_of is) range h.run h.lists h.rows.apart h.explained
-held (going (is, range, h)) = held_parts (ap is_begun is) (ap sizes_of is) range h.run h.lists h.rows.apart h.explained
+held (taking (is, range, h)) = held_parts (ap is_begun is) (ap sizes_of is) range h.run h.lists h.rows.best.apart h.explained
+held (going (is, range, h)) = held_parts (ap is_begun is) (ap sizes_of is) range h.run h.lists h.rows.best.apart h.explained
 held (standing (is, range, h)) = held_parts (ap is_begun is) (ap sizes_of is) range h.run h.lists h.apart h.explained

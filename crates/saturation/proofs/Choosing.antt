@@ -1,5 +1,5 @@
 -- The order in which statements are settled.
-use Rattle.std.proofs.Common.{◌≡◌, Bool, true, false, ◌⊎◌, sym, refl, ◌∙◌, subst, inl, inr, ⊎_elim}
+use Rattle.std.proofs.Common.{◌≡◌, Bool, true, false, ◌⊎◌, sym, refl, ◌∙◌, subst, ⊎_elim}
 use borrow.Author.Tests.{both_ways}
 use Rattle.standpoint.specs.declared.statement.Statement.{Statement}
 use Rattle.standpoint.specs.Algebra.{Algebra, Laws, NoWorse}

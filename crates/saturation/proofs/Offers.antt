@@ -1,5 +1,5 @@
 -- One offer: what the writes make of the rows, and that they keep the best of what was offered.
-use Rattle.std.proofs.Common.{◌≡◌, ℕ, ◌+◌, ◌<◌, ◌≤◌, Bool, true, false, cond, ◌⊎◌, List, ◌∷◌, length, get_or, Some, None, Option, sym, refl, ap, ◌∙◌, subst, inl, inr, ⊎_elim, arith, length-set, get_or-set_other, get_or-set_same}
+use Rattle.std.proofs.Common.{◌≡◌, ℕ, ◌+◌, ◌<◌, ◌≤◌, true, false, ◌⊎◌, List, ◌∷◌, length, get_or, Some, None, Option, sym, refl, ap, ◌∙◌, subst, inl, inr, ⊎_elim, arith, length-set, get_or-set_other, get_or-set_same}
 use borrow.Author.Tests.{both_ways}
 use Rattle.std.proofs.lemmas.Option.{cond_some, none-some}
 use Rattle.std.proofs.lemmas.Bool.Decides.{nat_tests, eqb_tells, leb_tells}
@@ -9,12 +9,10 @@ use Rattle.standpoint.specs.declared.statement.Statement.{Statement}
 use Rattle.saturation.specs.declared.row.Kept.{Kept}
 use Rattle.saturation.specs.declared.row.Row.{Row}
 use Rattle.standpoint.specs.Lists.{In}
-use Rattle.standpoint.specs.Derivations.{Base}
 use Rattle.saturation.specs.Rows.{no_row}
 use Rattle.saturation.specs.Buckets.{bucket_of, headed}
 use Rattle.saturation.specs.Tables.{State, row_at, statement_at, Absent, has_room, pushed, improved, rekept}
-use Rattle.saturation.specs.Places.{KeptRight}
-use Rattle.saturation.specs.Offering.{Apart, BestOf, Ranked, Grown, Taken, Outdone, Keeps}
+use Rattle.saturation.specs.Offering.{Apart, BestOf, Grown, Taken, Outdone, Keeps}
 use Rattle.saturation.proofs.Writing.{write_leaves}
 use Rattle.saturation.specs.Tournament.{Played, PlayedBut, ButWinners}
 use Rattle.saturation.proofs.Rematching.{Touched, touched_played, but_statement}
@@ -309,9 +307,9 @@ module _ {G : Type 0} (al : Algebra G) (s m t : State G) (x : Row) (g : G) (room
     apart = λ h. but_apart from_pushed (pushed_apart s x g rows_in grades_in absent h);
     only = λ k low h. let e = from_pushed.len in but_statement from_pushed k ∙ statement_new s x g rows_in grades_in k (omega arith);
     ranked = λ _ offered r. record {
-        best = but_best from_pushed al _ (pushed_best s x g rows_in grades_in al l absent offered r.best);
-        played = played (subst (λ (z : State G). PlayedBut al z s.len) (sym is) (touched_played al s (pushed s x g) s.len (pushed_touched s x g rows_in grades_in) r.played));
-      };
+      best = but_best from_pushed al _ (pushed_best s x g rows_in grades_in al l absent offered r.best);
+      played = played (subst (λ (z : State G). PlayedBut al z s.len) (sym is) (touched_played al s (pushed s x g) s.len (pushed_touched s x g rows_in grades_in) r.played));
+    };
     refused = λ e. absurd (both_ways true e refl);
   }
 
@@ -336,9 +334,9 @@ module _ {G : Type 0} (al : Algebra G) (s m t : State G) (i : ℕ) (x : Statemen
     apart = λ h. but_apart from_improved (improved_apart s i g kept in_rows in_grades h);
     only = λ k low h. let e = from_improved.len in absurd (let z : ⊥ = omega arith in z);
     ranked = λ _ offered r. record {
-        best = but_best from_improved al _ (improved_best s i g kept in_rows in_grades al l x within same out.0 out.1 offered r.best);
-        played = played (subst (λ (z : State G). PlayedBut al z i) (sym is) (touched_played al s (improved s i g kept) i (improved_touched s i g kept in_rows in_grades) r.played));
-      };
+      best = but_best from_improved al _ (improved_best s i g kept in_rows in_grades al l x within same out.0 out.1 offered r.best);
+      played = played (subst (λ (z : State G). PlayedBut al z i) (sym is) (touched_played al s (improved s i g kept) i (improved_touched s i g kept in_rows in_grades) r.played));
+    };
     refused = λ e. absurd (both_ways true e refl);
   }
 
