@@ -1,5 +1,5 @@
 -- The loops of a search find each offer that uses the newest settled statement.
-use Rattle.std.proofs.Common.{◌≡◌, ◌≢◌, ℕ, ◌+◌, ◌<◌, ◌≤◌, Bool, true, false, ◌==◌, cond, ◌⊎◌, List, [], ◌∷◌, length, None, sym, refl, ◌∙◌, subst, inl, inr, ⊎_elim, arith}
+use Rattle.std.proofs.Common.{◌≡◌, ◌≢◌, ℕ, ◌+◌, ◌<◌, ◌≤◌, Bool, true, false, ◌==◌, cond, List, [], ◌∷◌, length, None, sym, refl, ◌∙◌, inl, inr, ⊎_elim, arith}
 use Rattle.std.proofs.lemmas.Bool.Decides.{nat_tests}
 use Rattle.standpoint.specs.declared.statement.Statement.{Statement}
 use Rattle.standpoint.specs.Lists.{In}
@@ -12,12 +12,12 @@ use Rattle.saturation.specs.Sides.{settled_at}
 use Rattle.saturation.specs.Lanes.{Within, partners, last_lane}
 use Rattle.saturation.specs.Tables.{State, statement_at, turn_at}
 use Rattle.saturation.specs.Places.{Step, Uses}
-use Rattle.saturation.specs.Searching.{Went, OnLane, At, Beside, paired, arranged, Lasts, Around, SettledPlaces}
+use Rattle.saturation.specs.Searching.{Went, OnLane, paired, arranged, Lasts, Around, SettledPlaces}
 use Rattle.saturation.proofs.Lists.{Fit}
 use Rattle.saturation.proofs.Numbering.{nth_position}
 use Rattle.saturation.proofs.Stepping.{step_long, step_few}
 use Rattle.saturation.proofs.Walking.{From, within_listed}
-use Rattle.saturation.proofs.Partners.{partner_found, last_found}
+use Rattle.saturation.proofs.Partners.{At, partner_found, last_found}
 use Rattle.saturation.proofs.Searches.{Family, Below, went_as, went_more, went_none}
 
 in_paired : (position : Position) (n i : ℕ) → In (paired position n i) n
@@ -72,12 +72,8 @@ module _ {G : Type 0} (al : Algebra G) (v : ℕ) where
   step_uses n rule places l o used a = record { rule = rule; places = places; used = used; step = a }
 
   -- what is offered where k is on a lane, and that is not
-  pub went_off : (s : State G) (lane : Lane) (k : ℕ) (F May : Family G) → (Within lane (settled_at s.rows k) → ⊥) → Went al v s s (λ l o. OnLane lane l k × F l o) May true
+  pub went_off : (s : State G) (lane : Lane) (k : ℕ) (F May : Family G) → (Within lane k (settled_at s.rows k) → ⊥) → Went al v s s (λ l o. OnLane lane l k × F l o) May true
   went_off s lane k F May off = went_none al v s _ May (λ l is o b. off (within_listed s l is lane k b.0))
-
-  -- the same, where it is
-  pub went_on_lane : (s t : State G) (lane : Lane) (k : ℕ) (F May : Family G) (r : Bool) → Went al v s t F May r → Went al v s t (λ l o. OnLane lane l k × F l o) May r
-  went_on_lane s t lane k F May r x = went_as al v s t F (λ l o. OnLane lane l k × F l o) May May r (λ l is o b. b.1) (λ l is o w. w) x
 
   module _ (rule : ℕ) (position : Position) (n : ℕ) where
     -- what is given with n, i and the last one at j
@@ -90,8 +86,9 @@ module _ {G : Type 0} (al : Algebra G) (v : ℕ) where
     abbrev pub AroundAt : ℕ → Family G
     AroundAt i = Around al v rule position n i
 
-    abbrev pub BesideAll : Family G
-    BesideAll = Beside al v rule position n
+    -- all that is given with n at this position
+    abbrev pub Beside : Family G
+    Beside l o = (places : List ℕ) × At position places n × Step al v l rule places o
 
     last_uses : (i j : ℕ) (l : List (Statement × G)) (o : Statement × G) → Last i j l o → Uses al v l n o
     last_uses i j l o = step_uses n rule (arranged rule position n i j) l o (in_arranged rule position n i j)
@@ -109,77 +106,63 @@ module _ {G : Type 0} (al : Algebra G) (v : ℕ) where
         (λ l is o u. u)
         w
 
-    -- a rule with two premises
-    pub around_pair : (s t : State G) (lane : Lane) (i : ℕ) (r : Bool) → arity_of rule ≡ 2 →
-        Went al v s t (λ l o. OnLane lane l i × Step al v l rule (paired position n i) o) (λ l. Step al v l rule (paired position n i)) r →
-        Went al v s t (λ l o. OnLane lane l i × AroundAt i l o) (Using n) r
-    around_pair s t lane i r two x =
-        went_as al v s t _ (λ l o. OnLane lane l i × AroundAt i l o) _ (Using n) r
-        (λ l is o b. ⊎_elim
-        (λ w. (b.0, w))
-        (λ w. absurd (let e = step_long al v l rule (arranged rule position n i w.0) o w.2 in let long = length_arranged rule position n i w.0 in let z : ⊥ = omega arith in z))
-        b.1)
-        (λ l is o w. step_uses n rule (paired position n i) l o (in_paired position n i) w)
-        x
+    -- how many premises tell which it is
+    alone_long : (l : List (Statement × G)) (o : Statement × G) → Step al v l rule (n ∷ []) o → arity_of rule ≡ 1
+    alone_long l o w = sym (step_long al v l rule (n ∷ []) o w)
 
-    -- one with another number of them
-    pub around_lasts : (s t : State G) (lane : Lane) (i : ℕ) (r : Bool) → arity_of rule ≢ 2 → Went al v s t (LastsOf i) (Using n) r → Went al v s t (λ l o. OnLane lane l i × AroundAt i l o) (Using n) r
-    around_lasts s t lane i r other x =
-        went_as al v s t (LastsOf i) (λ l o. OnLane lane l i × AroundAt i l o) (Using n) (Using n) r
-        (λ l is o b. ⊎_elim
-        (λ w. absurd (other (sym (step_long al v l rule (paired position n i) o w) ∙ length_paired position n i)))
-        (λ w. w)
-        b.1)
-        (λ l is o w. w)
-        x
+    pair_long : (i : ℕ) (l : List (Statement × G)) (o : Statement × G) → Step al v l rule (paired position n i) o → arity_of rule ≡ 2
+    pair_long i l o w = sym (step_long al v l rule (paired position n i) o w) ∙ length_paired position n i
+
+    lasts_long : (i : ℕ) (l : List (Statement × G)) (o : Statement × G) → LastsOf i l o → arity_of rule ≡ 3
+    lasts_long i l o w = sym (step_long al v l rule (arranged rule position n i w.0) o w.2) ∙ length_arranged rule position n i w.0
+
+    -- so each of them is all that is given around i by a rule with so many
+    around_as : (s t : State G) (lane : Lane) (i : ℕ) (A May : Family G) (r : Bool) → ((l : List (Statement × G)) (o : Statement × G) → AroundAt i l o → A l o) →
+        ((l : List (Statement × G)) (o : Statement × G) → May l o → Uses al v l n o) → Went al v s t A May r → Went al v s t (λ l o. OnLane lane l i × AroundAt i l o) (Using n) r
+    around_as s t lane i A May r only uses x = went_as al v s t A (λ l o. OnLane lane l i × AroundAt i l o) May (Using n) r (λ l is o b. only l o b.1) (λ l is o w. uses l o w) x
+
+    pub around_alone : (s t : State G) (lane : Lane) (i : ℕ) (r : Bool) → arity_of rule ≡ 1 → Went al v s t (λ l. Step al v l rule (n ∷ [])) (λ l. Step al v l rule (n ∷ [])) r →
+        Went al v s t (λ l o. OnLane lane l i × AroundAt i l o) (Using n) r
+    around_alone s t lane i r one =
+        around_as s t lane i _ _ r
+        (λ l o. ⊎_elim (λ w. w) (⊎_elim (λ w. let two = pair_long i l o w in absurd (let z : ⊥ = omega arith in z)) (λ w. let three = lasts_long i l o w in absurd (let z : ⊥ = omega arith in z))))
+        (λ l o w. step_uses n rule (n ∷ []) l o (inl refl) w)
+
+    pub around_pair : (s t : State G) (lane : Lane) (i : ℕ) (r : Bool) → arity_of rule ≡ 2 → Went al v s t (λ l. Step al v l rule (paired position n i)) (λ l. Step al v l rule (paired position n i)) r →
+        Went al v s t (λ l o. OnLane lane l i × AroundAt i l o) (Using n) r
+    around_pair s t lane i r two =
+        around_as s t lane i _ _ r
+        (λ l o. ⊎_elim (λ w. let one = alone_long l o w in absurd (let z : ⊥ = omega arith in z)) (⊎_elim (λ w. w) (λ w. let three = lasts_long i l o w in absurd (let z : ⊥ = omega arith in z))))
+        (λ l o w. step_uses n rule (paired position n i) l o (in_paired position n i) w)
+
+    pub around_lasts : (s t : State G) (lane : Lane) (i : ℕ) (r : Bool) → arity_of rule ≢ 1 → arity_of rule ≢ 2 → Went al v s t (LastsOf i) (Using n) r →
+        Went al v s t (λ l o. OnLane lane l i × AroundAt i l o) (Using n) r
+    around_lasts s t lane i r several more =
+        around_as s t lane i (LastsOf i) (Using n) r
+        (λ l o. ⊎_elim (λ w. absurd (several (alone_long l o w))) (⊎_elim (λ w. absurd (more (pair_long i l o w))) (λ w. w)))
+        (λ l o w. w)
 
     -- the walk along the lane of the partners has ended
-    pub went_partners : (s t : State G) (x : Statement) → n < s.settled → arity_of rule ≢ 1 → x ≡ statement_at s (turn_at s n) →
-        Went al v s t (From (partners rule position x) AroundAt None) (Using n) true → Went al v s t BesideAll (Using n) true
-    went_partners s t x in_n several is_x w =
-        went_as al v s t (From (partners rule position x) AroundAt None) BesideAll (Using n) (Using n) true
+    pub went_partners : (s t : State G) (x : Statement) → n < s.settled → x ≡ statement_at s (turn_at s n) →
+        Went al v s t (From (partners rule position n x) AroundAt None) (Using n) true → Went al v s t Beside (Using n) true
+    went_partners s t x in_n is_x w =
+        went_as al v s t (From (partners rule position n x) AroundAt None) Beside (Using n) (Using n) true
         (λ l is o b.
-        let p = partner_found al v rule l o n x (λ d. sym (is_x ∙ (is.holds n in_n d).0)) several position b.0 b.1 b.2 in
+        let p = partner_found al v rule l o n x (λ d. sym (is_x ∙ (is.holds n in_n d).0)) position b.0 b.1 b.2 in
         (p.0, p.1, tt, p.2))
         (λ l is o u. u)
         w
 
-  -- the position of the only premise
-  abbrev Alone : Position → Type 0
-  Alone First = Unit {0}
-  Alone Second = ⊥
-  Alone Third = ⊥
-
-  -- a rule with one premise
-  beside_alone : (rule : ℕ) (position : Position) (n : ℕ) (l : List (Statement × G)) (o : Statement × G) → arity_of rule ≡ 1 → Beside al v rule position n l o → Alone position × Step al v l rule (n ∷ []) o
-  beside_alone rule position n l o one b = go position b.0 b.1 b.2
-    where
-      go : (q : Position) (places : List ℕ) → At q places n → Step al v l rule places o → Alone q × Step al v l rule (n ∷ []) o
-      go q [] at a = absurd (let few = (step_few al v l rule [] o a).0 in let z : ⊥ = omega arith in z)
-      go First (i ∷ []) at a = (tt, subst (λ (k : ℕ). Step al v l rule (k ∷ []) o) at a)
-      go Second (i ∷ []) at a = absurd at
-      go Third (i ∷ []) at a = absurd at
-      go q (i ∷ j ∷ ks) at a = absurd (let long = step_long al v l rule (i ∷ j ∷ ks) o a in let z : ⊥ = omega arith in z)
-
-  pub beside_single : (s t : State G) (rule : ℕ) (position : Position) (n : ℕ) (r : Bool) → arity_of rule ≡ 1 → Went al v s t (λ l. Step al v l rule (n ∷ [])) (λ l. Step al v l rule (n ∷ [])) r → Went al v s t (Beside al v rule position n) (Using n) r
-  beside_single s t rule position n r one x =
-      went_as al v s t _ (Beside al v rule position n) _ (Using n) r
-      (λ l is o b. (beside_alone rule position n l o one b).1)
-      (λ l is o w. step_uses n rule (n ∷ []) l o (inl refl) w)
-      x
-
-  -- it gives nothing with n at another position
-  pub beside_elsewhere : (s : State G) (rule : ℕ) (position : Position) (n : ℕ) → arity_of rule ≡ 1 → (position ≡ Second) ⊎ (position ≡ Third) → Went al v s s (Beside al v rule position n) (Using n) true
-  beside_elsewhere s rule position n one later = went_none al v s _ (Using n) (λ l is o b.
-      let off : Alone position → ⊥ = ⊎_elim (λ e. subst (λ (q : Position). Alone q → ⊥) (sym e) (λ z. z)) (λ e. subst (λ (q : Position). Alone q → ⊥) (sym e) (λ z. z)) later in
-      off (beside_alone rule position n l o one b).0)
-
   -- what a rule gives with n at any position
   abbrev pub Ruled : ℕ → ℕ → Family G
-  Ruled n rule l o = (1 ≤ rule) × (position : Position) × Beside al v rule position n l o
+  Ruled n rule l o = (1 ≤ rule) × (position : Position) × Beside rule position n l o
 
   abbrev pub Placed : ℕ → ℕ → ℕ → Family G
-  Placed rule n k = Beside al v rule (nth_position k) n
+  Placed rule n k = Beside rule (nth_position k) n
+
+  -- no rule has the number 0
+  pub went_unruled : (s : State G) (n : ℕ) → Went al v s s (Below (Ruled n) 1) (Using n) true
+  went_unruled s n = went_none al v s (Below (Ruled n) 1) (Using n) (λ l is o b. let h = b.1 in let low = b.2.0 in omega arith)
 
   -- one rule more
   pub went_rule : (s t u : State G) (n rule m : ℕ) → Fit s → 1 ≤ rule → 3 ≤ m → Went al v s t (Below (Ruled n) rule) (Using n) true → Went al v t u (Below (Placed rule n) m) (Using n) true → Went al v s u (Below (Ruled n) (rule + 1)) (Using n) true
@@ -189,7 +172,7 @@ module _ {G : Type 0} (al : Algebra G) (v : ℕ) where
       (λ l is o b. placed l o b.1 b.2)
       (λ l is o w. w) y)
     where
-      placed : (l : List (Statement × G)) (o : Statement × G) (position : Position) → Beside al v rule position n l o → Below (Placed rule n) m l o
+      placed : (l : List (Statement × G)) (o : Statement × G) (position : Position) → Beside rule position n l o → Below (Placed rule n) m l o
       placed l o First b = (0, omega arith, b)
       placed l o Second b = (1, omega arith, b)
       placed l o Third b = (2, omega arith, b)

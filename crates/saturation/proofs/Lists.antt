@@ -27,6 +27,9 @@ Fit s = (s.settled ≤ s.len) × TurnsWithin s.rows s.settled s.len
 pub turn_kept : {G : Type 0} (s t : State G) → Fit s → Grown s t → (k : ℕ) → k < s.settled → turn_at t k ≡ turn_at s k
 turn_kept s t fit g k h = let f = fit.0 in g.turns k (omega arith)
 
+pub statement_kept : {G : Type 0} (s t : State G) → Fit s → Grown s t → (k : ℕ) → k < s.settled → statement_at t (turn_at t k) ≡ statement_at s (turn_at s k)
+statement_kept s t fit g k h = ap (statement_at t) (turn_kept s t fit g k h) ∙ g.statements (turn_at s k) (fit.1 k h)
+
 -- what is settled stays as it is while rows are added and improved
 pub lists_grown : {G : Type 0} (s t : State G) (l : List (Statement × G)) → Fit s → Grown s t → Lists s l → Lists t l
 lists_grown {G} s t l fit g is =
@@ -38,7 +41,7 @@ lists_grown {G} s t l fit g is =
       holds = λ k h d.
           let h' = back k h in
           let p = is.holds k h' d in (
-            ap (statement_at t) (turn k h') ∙ g.statements (turn_at s k) (fit.1 k h') ∙ p.0,
+            statement_kept s t fit g k h' ∙ p.0,
             λ e. ap (λ (j : ℕ). get_or t.grades j e) (turn k h') ∙ grade k h' e ∙ p.1 e,
           );
       marked = λ k h.

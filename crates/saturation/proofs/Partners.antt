@@ -1,45 +1,66 @@
 -- The premises of a rule are on the lanes where they are looked for.
-use Rattle.std.proofs.Common.{◌≡◌, ◌≢◌, ℕ, ◌==◌, Bool, true, false, cond, List, [], ◌∷◌, get_or, sym, refl, subst, inl, inr, arith}
+use Rattle.std.proofs.Common.{◌≡◌, ℕ, ◌==◌, Bool, true, false, cond, List, [], ◌∷◌, get_or, sym, refl, subst, inl, inr, arith}
 use Rattle.standpoint.specs.declared.statement.Statement.{Statement}
 use Rattle.standpoint.specs.Lists.{StandsAt}
 use Rattle.standpoint.specs.Algebra.{Algebra}
-use Rattle.standpoint.specs.Rules.{Rule, arity_of}
-use Rattle.standpoint.specs.Rules.Rule.{role_transitive, sharper_transitive, sharper_than_both, lowered, lowered_inside, inside_transitive, subsumed_nested, subsumed_possible, possible_widened, necessary_then_nested, necessary_then_possible, possible_then_nested, possible_then_possible, existential_widened, existential_chained, existential_met, conjunction_met}
+use Rattle.standpoint.specs.Rules.{Rule}
+use Rattle.standpoint.specs.Rules.Rule.{role_transitive, sharper_transitive, sharper_than_both, lowered, lowered_inside, inside_transitive, subsumed_nested, subsumed_possible, possible_widened, necessary_then_nested, necessary_then_possible, possible_then_nested, possible_then_possible, existential_widened, existential_chained, existential_met, conjunction_met, necessary_here, of_all_things, existential_empty, necessary_empty, possible_empty, individual_empty}
 use Rattle.saturation.specs.declared.places.Position.{Position}
 use Rattle.saturation.specs.declared.places.Position.TheVariants.{First, Second, Third}
 use Rattle.saturation.specs.declared.lane.Lane.{Lane}
 use Rattle.saturation.specs.Lanes.{partners, last_lane, Within}
 use Rattle.saturation.specs.Places.{Step, StandAt, statements_of}
-use Rattle.saturation.specs.Searching.{OnLane, At, arranged, Around}
-use Rattle.saturation.proofs.Stepping.{step_long, step_few}
+use Rattle.saturation.specs.Searching.{OnLane, arranged, Around}
+use Rattle.saturation.proofs.Stepping.{step_few}
+
+-- n stands at this position among some places
+abbrev pub At : Position → List ℕ → ℕ → Type 0
+At First [] n = ⊥
+At First (i ∷ ks) n = i ≡ n
+At Second [] n = ⊥
+At Second (i ∷ []) n = ⊥
+At Second (i ∷ j ∷ ks) n = j ≡ n
+At Third [] n = ⊥
+At Third (i ∷ []) n = ⊥
+At Third (i ∷ j ∷ []) n = ⊥
+At Third (i ∷ j ∷ k ∷ ks) n = k ≡ n
+
+-- the only premise is its own partner
+one_within : {v rule : ℕ} {p o : Statement} (n : ℕ) → Rule v rule (p ∷ []) o → Within (partners rule First n p) n p
+one_within n necessary_here = refl
+one_within n of_all_things = refl
+one_within n existential_empty = refl
+one_within n necessary_empty = refl
+one_within n possible_empty = refl
+one_within n (individual_empty a) = refl
 
 -- each of two premises is among the partners of the other
-two_within : {v rule : ℕ} {p q o : Statement} → Rule v rule (p ∷ q ∷ []) o → Within (partners rule First p) q × Within (partners rule Second q) p
-two_within role_transitive = (refl, refl)
-two_within sharper_transitive = (refl, refl)
-two_within (lowered low high) = (refl, refl)
-two_within lowered_inside = (refl, (refl, refl))
-two_within inside_transitive = (refl, refl)
-two_within subsumed_nested = (refl, refl)
-two_within subsumed_possible = (refl, refl)
-two_within possible_widened = (refl, refl)
-two_within necessary_then_nested = (refl, refl)
-two_within necessary_then_possible = (refl, refl)
-two_within possible_then_nested = (refl, refl)
-two_within possible_then_possible = (refl, refl)
-two_within existential_met = (refl, refl)
+two_within : {v rule : ℕ} {p q o : Statement} (i j : ℕ) → Rule v rule (p ∷ q ∷ []) o → Within (partners rule First i p) j q × Within (partners rule Second j q) i p
+two_within i j role_transitive = (refl, refl)
+two_within i j sharper_transitive = (refl, refl)
+two_within i j (lowered low high) = (refl, refl)
+two_within i j lowered_inside = (refl, (refl, refl))
+two_within i j inside_transitive = (refl, refl)
+two_within i j subsumed_nested = (refl, refl)
+two_within i j subsumed_possible = (refl, refl)
+two_within i j possible_widened = (refl, refl)
+two_within i j necessary_then_nested = (refl, refl)
+two_within i j necessary_then_possible = (refl, refl)
+two_within i j possible_then_nested = (refl, refl)
+two_within i j possible_then_possible = (refl, refl)
+two_within i j existential_met = (refl, refl)
 
 -- of three premises the partner of each, and then the last
-record ThreeWithin (rule : ℕ) (p q r : Statement) : Type 0 where
-  pub first : Within (partners rule First p) r × Within (last_lane rule First p r) q
-  pub second : Within (partners rule Second q) (cond (rule == 14) p r) × Within (last_lane rule Second q (cond (rule == 14) p r)) (cond (rule == 14) r p)
-  pub third : Within (partners rule Third r) p × Within (last_lane rule Third r p) q
+record ThreeWithin (rule i j k : ℕ) (p q r : Statement) : Type 0 where
+  pub first : Within (partners rule First i p) k r × Within (last_lane rule First p r) j q
+  pub second : Within (partners rule Second j q) (cond (rule == 14) i k) (cond (rule == 14) p r) × Within (last_lane rule Second q (cond (rule == 14) p r)) (cond (rule == 14) k i) (cond (rule == 14) r p)
+  pub third : Within (partners rule Third k r) i p × Within (last_lane rule Third r p) j q
 
-three_within : {v rule : ℕ} {p q r o : Statement} → Rule v rule (p ∷ q ∷ r ∷ []) o → ThreeWithin rule p q r
-three_within sharper_than_both = record { first = (refl, refl); second = (refl, refl); third = (refl, refl) }
-three_within existential_widened = record { first = (refl, refl); second = (refl, refl); third = (refl, refl) }
-three_within existential_chained = record { first = (refl, refl); second = (refl, refl); third = (refl, refl) }
-three_within conjunction_met = record { first = (refl, refl); second = (refl, refl); third = (refl, refl) }
+three_within : {v rule : ℕ} {p q r o : Statement} (i j k : ℕ) → Rule v rule (p ∷ q ∷ r ∷ []) o → ThreeWithin rule i j k p q r
+three_within i j k sharper_than_both = record { first = (refl, refl); second = (refl, refl); third = (refl, refl) }
+three_within i j k existential_widened = record { first = (refl, refl); second = (refl, refl); third = (refl, refl) }
+three_within i j k existential_chained = record { first = (refl, refl); second = (refl, refl); third = (refl, refl) }
+three_within i j k conjunction_met = record { first = (refl, refl); second = (refl, refl); third = (refl, refl) }
 
 module _ {G : Type 0} (al : Algebra G) (v rule : ℕ) (l : List (Statement × G)) (o : Statement × G) where
   -- the statement settled at k
@@ -49,8 +70,8 @@ module _ {G : Type 0} (al : Algebra G) (v rule : ℕ) (l : List (Statement × G)
   named_is : (k : ℕ) (p : Statement × G) (x : Statement) → StandsAt l k p → Named k x → p.0 ≡ x
   named_is k p x at named = subst (λ (w : Statement × G). w.0 ≡ x) (at.1 p) (named p)
 
-  on_lane : (lane : Lane) (k : ℕ) (p : Statement × G) → StandsAt l k p → Within lane p.0 → OnLane lane l k
-  on_lane lane k p at within = (at.0, λ d. subst (λ (w : Statement × G). Within lane w.0) (sym (at.1 d)) within)
+  on_lane : (lane : Lane) (k : ℕ) (p : Statement × G) → StandsAt l k p → Within lane k p.0 → OnLane lane l k
+  on_lane lane k p at within = (at.0, λ d. subst (λ (w : Statement × G). Within lane k w.0) (sym (at.1 d)) within)
 
   record TwoAt (i j : ℕ) : Type 0 where
     pub p : Statement × G
@@ -93,68 +114,78 @@ module _ {G : Type 0} (al : Algebra G) (v rule : ℕ) (l : List (Statement × G)
 
   module _ (n : ℕ) (x : Statement) (named : Named n x) where
     abbrev Found : Position → Type 0
-    Found position = (i : ℕ) × OnLane (partners rule position x) l i × Around al v rule position n i l o
+    Found position = (i : ℕ) × OnLane (partners rule position n x) l i × Around al v rule position n i l o
+
+    found_alone : Step al v l rule (n ∷ []) o → Found First
+    found_alone a = go a.premises a.stand a.gives
+      where
+        go : (ps : List (Statement × G)) → StandAt l (n ∷ []) ps → Rule v rule (statements_of ps) o.0 → Found First
+        go [] s gives = absurd s
+        go (p ∷ []) s gives = (n, on_lane (partners rule First n x) n p s.0 (subst (λ (y : Statement). Within (partners rule First n y) n p.0) (named_is n p x s.0 named) (one_within n gives)), inl a)
+        go (p ∷ q ∷ ps) s gives = absurd s.1
 
     found_second : (b : Bool) → (rule == 14) ≡ b → (i k : ℕ) → Step al v l rule (i ∷ n ∷ k ∷ []) o → Found Second
     found_second true e i k a =
         let t = three_at i n k a in
-        let w = subst (λ (c : Bool). Within (partners rule Second t.q.0) (cond c t.p.0 t.r.0)) e (three_within t.gives).second.0 in (
+        let w = subst (λ (c : Bool). Within (partners rule Second n t.q.0) (cond c i k) (cond c t.p.0 t.r.0)) e (three_within i n k t.gives).second.0 in (
           i,
-          on_lane (partners rule Second x) i t.p t.at_p (subst (λ (y : Statement). Within (partners rule Second y) t.p.0) (named_is n t.q x t.at_q named) w),
-          inr (k, t.at_r.0, subst (λ (c : Bool). Step al v l rule (Middle c n i k) o) (sym e) a),
+          on_lane (partners rule Second n x) i t.p t.at_p (subst (λ (y : Statement). Within (partners rule Second n y) i t.p.0) (named_is n t.q x t.at_q named) w),
+          inr (inr (k, t.at_r.0, subst (λ (c : Bool). Step al v l rule (Middle c n i k) o) (sym e) a)),
         )
     found_second false e i k a =
         let t = three_at i n k a in
-        let w = subst (λ (c : Bool). Within (partners rule Second t.q.0) (cond c t.p.0 t.r.0)) e (three_within t.gives).second.0 in (
+        let w = subst (λ (c : Bool). Within (partners rule Second n t.q.0) (cond c i k) (cond c t.p.0 t.r.0)) e (three_within i n k t.gives).second.0 in (
           k,
-          on_lane (partners rule Second x) k t.r t.at_r (subst (λ (y : Statement). Within (partners rule Second y) t.r.0) (named_is n t.q x t.at_q named) w),
-          inr (i, t.at_p.0, subst (λ (c : Bool). Step al v l rule (Middle c n k i) o) (sym e) a),
+          on_lane (partners rule Second n x) k t.r t.at_r (subst (λ (y : Statement). Within (partners rule Second n y) k t.r.0) (named_is n t.q x t.at_q named) w),
+          inr (inr (i, t.at_p.0, subst (λ (c : Bool). Step al v l rule (Middle c n k i) o) (sym e) a)),
         )
 
-    -- whatever a rule with several premises gives with n at a position, it gives with a partner on the lane
-    pub partner_found : arity_of rule ≢ 1 → (position : Position) (places : List ℕ) → At position places n → Step al v l rule places o → Found position
-    partner_found several position [] at a = absurd (let few = (step_few al v l rule [] o a).0 in let z : ⊥ = omega arith in z)
-    partner_found several position (i ∷ []) at a = absurd (several (sym (step_long al v l rule (i ∷ []) o a)))
-    partner_found several First (i ∷ j ∷ []) at a =
+    -- whatever a rule gives with n at a position, it gives with a partner on the lane
+    pub partner_found : (position : Position) (places : List ℕ) → At position places n → Step al v l rule places o → Found position
+    partner_found position [] at a = absurd (let few = (step_few al v l rule [] o a).0 in let z : ⊥ = omega arith in z)
+    partner_found First (i ∷ []) at a = found_alone (subst (λ (k : ℕ). Step al v l rule (k ∷ []) o) at a)
+    partner_found Second (i ∷ []) at a = absurd at
+    partner_found Third (i ∷ []) at a = absurd at
+    partner_found First (i ∷ j ∷ []) at a =
         let b = subst (λ (k : ℕ). Step al v l rule (k ∷ j ∷ []) o) at a in
         let t = two_at n j b in
-        (j, on_lane (partners rule First x) j t.q t.at_q (subst (λ (y : Statement). Within (partners rule First y) t.q.0) (named_is n t.p x t.at_p named) (two_within t.gives).0), inl b)
-    partner_found several Second (i ∷ j ∷ []) at a =
+        (j, on_lane (partners rule First n x) j t.q t.at_q (subst (λ (y : Statement). Within (partners rule First n y) j t.q.0) (named_is n t.p x t.at_p named) (two_within n j t.gives).0), inr (inl b))
+    partner_found Second (i ∷ j ∷ []) at a =
         let b = subst (λ (k : ℕ). Step al v l rule (i ∷ k ∷ []) o) at a in
         let t = two_at i n b in
-        (i, on_lane (partners rule Second x) i t.p t.at_p (subst (λ (y : Statement). Within (partners rule Second y) t.p.0) (named_is n t.q x t.at_q named) (two_within t.gives).1), inl b)
-    partner_found several Third (i ∷ j ∷ []) at a = absurd at
-    partner_found several First (i ∷ j ∷ k ∷ []) at a =
+        (i, on_lane (partners rule Second n x) i t.p t.at_p (subst (λ (y : Statement). Within (partners rule Second n y) i t.p.0) (named_is n t.q x t.at_q named) (two_within i n t.gives).1), inr (inl b))
+    partner_found Third (i ∷ j ∷ []) at a = absurd at
+    partner_found First (i ∷ j ∷ k ∷ []) at a =
         let b = subst (λ (m : ℕ). Step al v l rule (m ∷ j ∷ k ∷ []) o) at a in
         let t = three_at n j k b in
-        (k, on_lane (partners rule First x) k t.r t.at_r (subst (λ (y : Statement). Within (partners rule First y) t.r.0) (named_is n t.p x t.at_p named) (three_within t.gives).first.0), inr (j, t.at_q.0, b))
-    partner_found several Second (i ∷ j ∷ k ∷ []) at a = found_second (rule == 14) refl i k (subst (λ (m : ℕ). Step al v l rule (i ∷ m ∷ k ∷ []) o) at a)
-    partner_found several Third (i ∷ j ∷ k ∷ []) at a =
+        (k, on_lane (partners rule First n x) k t.r t.at_r (subst (λ (y : Statement). Within (partners rule First n y) k t.r.0) (named_is n t.p x t.at_p named) (three_within n j k t.gives).first.0), inr (inr (j, t.at_q.0, b)))
+    partner_found Second (i ∷ j ∷ k ∷ []) at a = found_second (rule == 14) refl i k (subst (λ (m : ℕ). Step al v l rule (i ∷ m ∷ k ∷ []) o) at a)
+    partner_found Third (i ∷ j ∷ k ∷ []) at a =
         let b = subst (λ (m : ℕ). Step al v l rule (i ∷ j ∷ m ∷ []) o) at a in
         let t = three_at i j n b in
-        (i, on_lane (partners rule Third x) i t.p t.at_p (subst (λ (y : Statement). Within (partners rule Third y) t.p.0) (named_is n t.r x t.at_r named) (three_within t.gives).third.0), inr (j, t.at_q.0, b))
-    partner_found several position (i ∷ j ∷ k ∷ m ∷ ks) at a = absurd (let few = (step_few al v l rule (i ∷ j ∷ k ∷ m ∷ ks) o a).1 in let z : ⊥ = omega arith in z)
+        (i, on_lane (partners rule Third n x) i t.p t.at_p (subst (λ (y : Statement). Within (partners rule Third n y) i t.p.0) (named_is n t.r x t.at_r named) (three_within i j n t.gives).third.0), inr (inr (j, t.at_q.0, b)))
+    partner_found position (i ∷ j ∷ k ∷ m ∷ ks) at a = absurd (let few = (step_few al v l rule (i ∷ j ∷ k ∷ m ∷ ks) o a).1 in let z : ⊥ = omega arith in z)
 
     module _ (i : ℕ) (y : Statement) (partner : Named i y) where
-      last_of : (position : Position) (p r q : Statement) → p ≡ x → r ≡ y → Within (last_lane rule position p r) q → Within (last_lane rule position x y) q
-      last_of position p r q e f within = subst (λ (z : Statement). Within (last_lane rule position x z) q) f (subst (λ (z : Statement). Within (last_lane rule position z r) q) e within)
+      last_of : (position : Position) (j : ℕ) (p r q : Statement) → p ≡ x → r ≡ y → Within (last_lane rule position p r) j q → Within (last_lane rule position x y) j q
+      last_of position j p r q e f within = subst (λ (z : Statement). Within (last_lane rule position x z) j q) f (subst (λ (z : Statement). Within (last_lane rule position z r) j q) e within)
 
       last_second : (b : Bool) → (rule == 14) ≡ b → (j : ℕ) → Step al v l rule (Middle b n i j) o → OnLane (last_lane rule Second x y) l j
       last_second true e j a =
           let t = three_at i n j a in
-          let w = subst (λ (c : Bool). Within (last_lane rule Second t.q.0 (cond c t.p.0 t.r.0)) (cond c t.r.0 t.p.0)) e (three_within t.gives).second.1 in
-          on_lane (last_lane rule Second x y) j t.r t.at_r (last_of Second t.q.0 t.p.0 t.r.0 (named_is n t.q x t.at_q named) (named_is i t.p y t.at_p partner) w)
+          let w = subst (λ (c : Bool). Within (last_lane rule Second t.q.0 (cond c t.p.0 t.r.0)) (cond c j i) (cond c t.r.0 t.p.0)) e (three_within i n j t.gives).second.1 in
+          on_lane (last_lane rule Second x y) j t.r t.at_r (last_of Second j t.q.0 t.p.0 t.r.0 (named_is n t.q x t.at_q named) (named_is i t.p y t.at_p partner) w)
       last_second false e j a =
           let t = three_at j n i a in
-          let w = subst (λ (c : Bool). Within (last_lane rule Second t.q.0 (cond c t.p.0 t.r.0)) (cond c t.r.0 t.p.0)) e (three_within t.gives).second.1 in
-          on_lane (last_lane rule Second x y) j t.p t.at_p (last_of Second t.q.0 t.r.0 t.p.0 (named_is n t.q x t.at_q named) (named_is i t.r y t.at_r partner) w)
+          let w = subst (λ (c : Bool). Within (last_lane rule Second t.q.0 (cond c t.p.0 t.r.0)) (cond c i j) (cond c t.r.0 t.p.0)) e (three_within j n i t.gives).second.1 in
+          on_lane (last_lane rule Second x y) j t.p t.at_p (last_of Second j t.q.0 t.r.0 t.p.0 (named_is n t.q x t.at_q named) (named_is i t.r y t.at_r partner) w)
 
       -- and with a last one on its lane
       pub last_found : (position : Position) (j : ℕ) → Step al v l rule (arranged rule position n i j) o → OnLane (last_lane rule position x y) l j
       last_found First j a =
           let t = three_at n j i a in
-          on_lane (last_lane rule First x y) j t.q t.at_q (last_of First t.p.0 t.r.0 t.q.0 (named_is n t.p x t.at_p named) (named_is i t.r y t.at_r partner) (three_within t.gives).first.1)
+          on_lane (last_lane rule First x y) j t.q t.at_q (last_of First j t.p.0 t.r.0 t.q.0 (named_is n t.p x t.at_p named) (named_is i t.r y t.at_r partner) (three_within n j i t.gives).first.1)
       last_found Second j a = last_second (rule == 14) refl j a
       last_found Third j a =
           let t = three_at i j n a in
-          on_lane (last_lane rule Third x y) j t.q t.at_q (last_of Third t.r.0 t.p.0 t.q.0 (named_is n t.r x t.at_r named) (named_is i t.p y t.at_p partner) (three_within t.gives).third.1)
+          on_lane (last_lane rule Third x y) j t.q t.at_q (last_of Third j t.r.0 t.p.0 t.q.0 (named_is n t.r x t.at_r named) (named_is i t.p y t.at_p partner) (three_within i j n t.gives).third.1)

@@ -1,26 +1,28 @@
 -- A walk back along a lane.
-use Rattle.std.proofs.Common.{◌≡◌, ℕ, zero, suc, ◌-◌, ◌<◌, ◌≤◌, true, ◌⊎◌, List, length, Some, None, Option, SomeIff, sym, refl, ap, ◌∙◌, subst, inl, inr, ⊎_elim, arith}
+use Rattle.std.proofs.Common.{◌≡◌, ℕ, zero, suc, ◌-◌, ◌<◌, ◌≤◌, true, ◌⊎◌, List, length, Some, None, Option, SomeIff, Bool, nat_lt, sym, refl, ap, ◌∙◌, subst, inl, inr, ⊎_elim, arith}
+use Rattle.std.specs.Bool.{then_some}
+use Rattle.std.proofs.lemmas.Bool.Decides.{nat_tests}
 use Rattle.standpoint.specs.declared.statement.Statement.{Statement}
 use Rattle.standpoint.specs.Algebra.{Algebra}
 use Rattle.saturation.specs.declared.row.Row.{Row}
 use Rattle.saturation.specs.declared.lane.Lane.{Lane}
-use Rattle.saturation.specs.declared.lane.Lane.TheVariants.{Nowhere, Along, Outer, Inside}
+use Rattle.saturation.specs.declared.lane.Lane.TheVariants.{Nowhere, Alone, Along, Outer, Inside}
 use Rattle.saturation.specs.declared.side.Key.{Key}
 use Rattle.saturation.specs.declared.side.Side.{Side}
 use Rattle.saturation.specs.Chains.{last_in, links_in}
-use Rattle.saturation.specs.Sides.{key_of, key_bucket, chain_of, settled_at, side_bucket, Sided}
+use Rattle.saturation.specs.Sides.{key_bucket, chain_of, settled_at, side_bucket, Sided}
 use Rattle.saturation.specs.Lanes.{Within, track, lane_bucket}
-use Rattle.saturation.specs.Tables.{State, statement_at, turn_at}
-use Rattle.saturation.specs.Offering.{Grown}
+use Rattle.saturation.specs.Tables.{State}
 use Rattle.saturation.specs.Searching.{Lists, Went, OnLane}
-use Rattle.saturation.proofs.Chaining.{Passed, On, none_past, past_link}
-use Rattle.saturation.proofs.Lists.{Fit, turn_kept, lists_grown}
+use Rattle.saturation.proofs.Chaining.{Passed, On, none_past, on_last, past_link}
+use Rattle.saturation.proofs.Lists.{Fit, lists_grown}
 use Rattle.saturation.proofs.Stepping.{value_at}
 use Rattle.saturation.proofs.Searches.{Family, went_none, went_then, went_as}
 
 -- what is on a lane is in its bucket
-pub tracked : (rows : List Row) (lane : Lane) (k : ℕ) → Within lane (settled_at rows k) → track rows lane k ≡ lane_bucket rows lane
+pub tracked : (rows : List Row) (lane : Lane) (k : ℕ) → Within lane k (settled_at rows k) → track rows lane k ≡ lane_bucket rows lane
 tracked rows Nowhere k within = absurd within
+tracked rows (Alone n) k within = within
 tracked rows (Along side node) k within = ap (key_bucket (length rows)) within
 tracked rows (Outer standpoint) k within = refl
 tracked rows (Inside standpoint) k within = refl
@@ -33,6 +35,19 @@ link_along rows settled sides side node k h here = (sides side).back k h ∙ ap 
 pub last_nowhere : (rows : List Row) (n : ℕ) → last_in (track rows Nowhere) 1 n ≡ None
 last_nowhere rows zero = refl
 last_nowhere rows (suc n) = last_nowhere rows n
+
+-- a walk along one place
+pub last_alone : (n m : ℕ) → then_some (nat_lt n m) n ≡ last_in (λ k. k) n m
+last_alone n zero = grind (arith, nat_tests)
+last_alone n (suc m) = let before = last_alone n m in grind (arith, nat_tests)
+
+pub none_from : (rows : List Row) (lane : Lane) (k : ℕ) → (lane ≡ Nowhere) ⊎ ((n : ℕ) × (lane ≡ Alone n)) → track rows lane k ≡ lane_bucket rows lane → None ≡ last_in (track rows lane) (lane_bucket rows lane) k
+none_from rows lane k which =
+    let Ended : Lane → Type 0 = λ w. track rows w k ≡ lane_bucket rows w → None ≡ last_in (track rows w) (lane_bucket rows w) k in
+    ⊎_elim
+    (λ e. subst Ended (sym e) (λ _. sym (last_nowhere rows k)))
+    (λ w. subst Ended (sym w.1) (λ same. let last = last_alone w.0 k in grind (arith, nat_tests)))
+    which
 
 -- a walk along all settled places
 last_of_all : (n : ℕ) (r : Option ℕ) → SomeIff r (1 ≤ n) (n - 1) → r ≡ last_in (λ k. 0) 0 n
@@ -50,59 +65,48 @@ last_by_number rows lane n r which e =
 
 module _ {G : Type 0} (s : State G) (l : List (Statement × G)) (is : Lists s l) (lane : Lane) (k : ℕ) where
   -- what is listed on a lane is so in the rows
-  pub within_listed : OnLane lane l k → Within lane (settled_at s.rows k)
+  pub within_listed : OnLane lane l k → Within lane k (settled_at s.rows k)
   within_listed on =
       let long = is.long in
       let below = on.0 in
       let v = value_at l k below in
-      subst (Within lane) (sym (is.holds k (omega arith) v.0).0) (on.1 v.0)
-
--- more rows leave the buckets of what is settled
-module _ {G : Type 0} (s t : State G) (fit : Fit s) (grown : Grown s t) where
-  track_grown : (lane : Lane) (k : ℕ) → k < s.settled → track t.rows lane k ≡ track s.rows lane k
-  track_grown Nowhere k h = refl
-  track_grown (Along side node) k h =
-      ap (λ (m : ℕ). key_bucket m (key_of side (settled_at t.rows k))) grown.rows_long
-      ∙ ap (λ (x : Statement). key_bucket (length s.rows) (key_of side x)) (ap (statement_at t) (turn_kept s t fit grown k h) ∙ grown.statements (turn_at s k) (fit.1 k h))
-  track_grown (Outer standpoint) k h = refl
-  track_grown (Inside standpoint) k h = refl
-
-  bucket_grown : (lane : Lane) → lane_bucket t.rows lane ≡ lane_bucket s.rows lane
-  bucket_grown Nowhere = refl
-  bucket_grown (Along side node) = ap (λ (m : ℕ). key_bucket m node) grown.rows_long
-  bucket_grown (Outer standpoint) = refl
-  bucket_grown (Inside standpoint) = refl
-
-  pub on_grown : (lane : Lane) (k : ℕ) → k < s.settled → track s.rows lane k ≡ lane_bucket s.rows lane → (k < t.settled) × (track t.rows lane k ≡ lane_bucket t.rows lane)
-  on_grown lane k h here = let same = grown.settled in (omega arith, track_grown lane k h ∙ here ∙ sym (bucket_grown lane))
-
--- where a walk stands on a lane
-abbrev pub Standing : List Row → ℕ → Lane → Option ℕ → Type 0
-Standing rows settled lane at = On (track rows lane) (lane_bucket rows lane) settled at
+      subst (Within lane k) (sym (is.holds k (omega arith) v.0).0) (on.1 v.0)
 
 -- what F gives at each place of a lane that the walk has passed
 abbrev pub From : {G : Type 0} → Lane → (ℕ → Family G) → Option ℕ → Family G
 From lane F at l o = (i : ℕ) × OnLane lane l i × Passed at i × F i l o
 
 module _ {G : Type 0} (al : Algebra G) (v : ℕ) (lane : Lane) (F : ℕ → Family G) (May : Family G) where
+  -- from s to m a walk has offered what F gives at each place of the lane that lies past the one at which it stands
+  abbrev pub Walk : State G → State G → Option ℕ → Type 0
+  Walk s m at = On (track m.rows lane) (lane_bucket m.rows lane) m.settled at × Went al v s m (From lane F at) May true
+
   -- before the walk: no place of the lane lies past the last one
-  pub walk_start : (s : State G) (at : Option ℕ) → at ≡ last_in (track s.rows lane) (lane_bucket s.rows lane) s.settled → Went al v s s (From lane F at) May true
-  walk_start s at last = went_none al v s (From lane F at) May (λ l is o b.
-      let long = is.long in
-      let below = b.1.0 in
-      none_past (track s.rows lane) (lane_bucket s.rows lane) s.settled at (sym last) b.0 (omega arith) (tracked s.rows lane b.0 (within_listed s l is lane b.0 b.1)) b.2)
+  pub walk_start : (s : State G) (at : Option ℕ) → at ≡ last_in (track s.rows lane) (lane_bucket s.rows lane) s.settled → Walk s s at
+  walk_start s at last = (
+    on_last (track s.rows lane) (lane_bucket s.rows lane) s.settled s.settled at (omega arith) last,
+    went_none al v s (From lane F at) May (λ l is o b.
+        let long = is.long in
+        let below = b.1.0 in
+        none_past (track s.rows lane) (lane_bucket s.rows lane) s.settled at (sym last) b.0 (omega arith) (tracked s.rows lane b.0 (within_listed s l is lane b.0 b.1)) b.2),
+  )
 
   -- one place more: the walk goes on from where it is linked to
-  pub walk_next : (s m u : State G) (k : ℕ) (r : Option ℕ) → Fit s → r ≡ last_in (track u.rows lane) (lane_bucket u.rows lane) k →
-      Went al v s m (From lane F (Some k)) May true → Went al v m u (λ l o. OnLane lane l k × F k l o) May true → Went al v s u (From lane F r) May true
-  walk_next s m u k r fit link x y =
-      let both = went_then al v s m u (From lane F (Some k)) (λ l o. OnLane lane l k × F k l o) May true true fit refl x y in
-      went_as al v s u (λ l o. From lane F (Some k) l o ⊎ (OnLane lane l k × F k l o)) (From lane F r) May May true
-      (λ l is o b.
-      let here = tracked u.rows lane b.0 (within_listed u l (lists_grown s u l fit both.grown is) lane b.0 b.1) in
-      ⊎_elim
-      (λ over. inl (b.0, b.1, over, b.3))
-      (λ e. inr (subst (λ (j : ℕ). OnLane lane l j × F j l o) e (b.1, b.3)))
-      (past_link (track u.rows lane) (lane_bucket u.rows lane) k r link b.0 here b.2))
-      (λ l is o w. w)
-      both
+  pub walk_next : (s m u : State G) (at : Option ℕ) (k : ℕ) (r : Option ℕ) (b : Bool) → Fit s → at ≡ Some k → r ≡ last_in (track u.rows lane) (lane_bucket u.rows lane) k → b ≡ true →
+      Walk s m at → Went al v m u (λ l o. OnLane lane l k × F k l o) May b → Walk s u r
+  walk_next s m u at k r b fit is_at link on walk here =
+      let from : Walk s m (Some k) = subst (Walk s m) is_at walk in
+      let below = from.0.0 in
+      let same = here.grown.settled in
+      let both = went_then al v s m u (From lane F (Some k)) (λ l o. OnLane lane l k × F k l o) May true true fit refl from.1 (subst (Went al v m u (λ l o. OnLane lane l k × F k l o) May) on here) in (
+        on_last (track u.rows lane) (lane_bucket u.rows lane) k u.settled r (omega arith) link,
+        went_as al v s u (λ l o. From lane F (Some k) l o ⊎ (OnLane lane l k × F k l o)) (From lane F r) May May true
+            (λ l is o b.
+            let here = tracked u.rows lane b.0 (within_listed u l (lists_grown s u l fit both.grown is) lane b.0 b.1) in
+            ⊎_elim
+            (λ over. inl (b.0, b.1, over, b.3))
+            (λ e. inr (subst (λ (j : ℕ). OnLane lane l j × F j l o) e (b.1, b.3)))
+            (past_link (track u.rows lane) (lane_bucket u.rows lane) k r link b.0 here b.2))
+            (λ l is o w. w)
+            both,
+      )

@@ -8,7 +8,7 @@ use Rattle.saturation.specs.declared.side.Key.{Key}
 use Rattle.saturation.specs.declared.side.Side.{Side}
 use Rattle.saturation.specs.declared.side.Side.TheVariants.{Source, Target, Inner}
 use Rattle.saturation.specs.declared.lane.Lane.{Lane}
-use Rattle.saturation.specs.declared.lane.Lane.TheVariants.{Nowhere, Along, Outer, Inside}
+use Rattle.saturation.specs.declared.lane.Lane.TheVariants.{Nowhere, Alone, Along, Outer, Inside}
 use Rattle.saturation.specs.Sides.{key, source_key, target_key, inner_key, key_of, key_bucket, side_bucket}
 
 -- the statements of a shape whose node on a side has the two names of another
@@ -18,9 +18,9 @@ along side shape node = Along side (key shape node.first node.second)
 abbrev pub when : Bool → Lane → Lane
 when holds lane = cond holds lane Nowhere
 
--- the partners of the first premise x: the second of two, or the third of three
-abbrev pub beside_first : ℕ → Statement → Lane
-beside_first rule x =
+-- the partners of the first premise x, settled at n: itself where it is the only one, the second of two, or the third of three
+abbrev pub beside_first : ℕ → ℕ → Statement → Lane
+beside_first rule n x =
     cond (rule == 1) (when (x.shape == 8) (along Source 8 (target_key x)))
     (cond (rule == 2) (when (x.shape == 1) (along Source 1 (target_key x)))
     (cond (rule == 3) (when (x.shape == 1) (along Source 2 (target_key x)))
@@ -38,7 +38,7 @@ beside_first rule x =
     (cond (rule == 15) (when (x.shape == 5) (along Source 9 (inner_key x)))
     (cond (rule == 16) (when (x.shape == 5) (along Source 6 (target_key x)))
     (cond (rule == 17) (when (x.shape == 3) (along Source 7 (target_key x)))
-    Nowhere))))))))))))))))
+    (Alone n)))))))))))))))))
 
 -- the partners of the second premise x: the first of two, or the third of three; but the first by rule 14
 abbrev pub beside_second : ℕ → Statement → Lane
@@ -69,10 +69,10 @@ beside_third rule x =
     (cond (rule == 17) (when (x.shape == 7) (along Target 3 (source_key x)))
     Nowhere)))
 
-abbrev pub partners : ℕ → Position → Statement → Lane
-partners rule First x = beside_first rule x
-partners rule Second x = beside_second rule x
-partners rule Third x = beside_third rule x
+abbrev pub partners : ℕ → Position → ℕ → Statement → Lane
+partners rule First n x = beside_first rule n x
+partners rule Second n x = beside_second rule x
+partners rule Third n x = beside_third rule x
 
 -- the last of three premises, beside the newest x and its partner y
 abbrev pub last_lane : ℕ → Position → Statement → Statement → Lane
@@ -95,22 +95,25 @@ last_lane rule Third x y =
     (cond (rule == 17) (along Target 3 (target_key x))
     Nowhere)))
 
--- y is on a lane
-abbrev pub Within : Lane → Statement → Type 0
-Within Nowhere y = ⊥
-Within (Along side node) y = key_of side y ≡ node
-Within (Outer standpoint) y = y.first ≡ standpoint
-Within (Inside standpoint) y = (y.shape ≡ 3) × (y.third ≡ standpoint)
+-- y, settled at k, is on a lane
+abbrev pub Within : Lane → ℕ → Statement → Type 0
+Within Nowhere k y = ⊥
+Within (Alone n) k y = k ≡ n
+Within (Along side node) k y = key_of side y ≡ node
+Within (Outer standpoint) k y = y.first ≡ standpoint
+Within (Inside standpoint) k y = (y.shape ≡ 3) × (y.third ≡ standpoint)
 
 -- the bucket of each settled place, and that of the lane: a walk goes along the places where both are the same
 abbrev pub track : List Row → Lane → ℕ → ℕ
 track rows Nowhere k = 0
+track rows (Alone n) k = k
 track rows (Along side node) k = side_bucket side rows k
 track rows (Outer standpoint) k = 0
 track rows (Inside standpoint) k = 0
 
 abbrev pub lane_bucket : List Row → Lane → ℕ
 lane_bucket rows Nowhere = 1
+lane_bucket rows (Alone n) = n
 lane_bucket rows (Along side node) = key_bucket (length rows) node
 lane_bucket rows (Outer standpoint) = 0
 lane_bucket rows (Inside standpoint) = 0

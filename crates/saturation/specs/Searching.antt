@@ -62,23 +62,7 @@ pub record Went {G : Type 0} (a : Algebra G) (individuals : ℕ) (s t : State G)
 
 -- the one at k is settled, and on a lane
 abbrev pub OnLane : {G : Type 0} → Lane → List (Statement × G) → ℕ → Type 0
-OnLane {G} lane settled k = (k < length settled) × ((d : Statement × G) → Within lane (slice_index_or settled k d).0)
-
--- n stands at this position among some places
-abbrev pub At : Position → List ℕ → ℕ → Type 0
-At First [] n = ⊥
-At First (i ∷ ks) n = i ≡ n
-At Second [] n = ⊥
-At Second (i ∷ []) n = ⊥
-At Second (i ∷ j ∷ ks) n = j ≡ n
-At Third [] n = ⊥
-At Third (i ∷ []) n = ⊥
-At Third (i ∷ j ∷ []) n = ⊥
-At Third (i ∷ j ∷ k ∷ ks) n = k ≡ n
-
--- all that a rule gives with n at this position
-abbrev pub Beside : {G : Type 0} → Algebra G → ℕ → ℕ → Position → ℕ → List (Statement × G) → Statement × G → Type 0
-Beside a individuals rule position n settled o = (places : List ℕ) × At position places n × Step a individuals settled rule places o
+OnLane {G} lane settled k = (k < length settled) × ((d : Statement × G) → Within lane k (slice_index_or settled k d).0)
 
 -- two, n at this position
 abbrev pub paired : {X : Type 0} → Position → X → X → List X
@@ -96,6 +80,7 @@ arranged rule Third n i j = i ∷ j ∷ n ∷ []
 abbrev pub Lasts : {G : Type 0} → Algebra G → ℕ → ℕ → Position → ℕ → ℕ → List (Statement × G) → Statement × G → Type 0
 Lasts a individuals rule position n i settled o = (j : ℕ) × (j < length settled) × Step a individuals settled rule (arranged rule position n i j) o
 
--- the same, or without a last one
+-- the same, or without a last one, or by itself
 abbrev pub Around : {G : Type 0} → Algebra G → ℕ → ℕ → Position → ℕ → ℕ → List (Statement × G) → Statement × G → Type 0
-Around a individuals rule position n i settled o = Step a individuals settled rule (paired position n i) o ⊎ Lasts a individuals rule position n i settled o
+Around a individuals rule position n i settled o =
+    Step a individuals settled rule (n ∷ []) o ⊎ (Step a individuals settled rule (paired position n i) o ⊎ Lasts a individuals rule position n i settled o)

@@ -19,6 +19,8 @@ use standpoint::{Rule, Statement};
 #[derive(Clone, Copy)]
 pub(crate) enum Lane {
     Nowhere,
+    // This place alone.
+    Alone(usize),
     // With this node on this side.
     Along(Side, Key),
     // Of any shape, whose first number is this standpoint.
@@ -72,9 +74,9 @@ fn ending(shape: u8, node: Key) -> Lane
     along(Side::Target, shape, node)
 }
 
-// The partners of the first premise x: the second of two, or the third of three.
-fn beside_first(rule: Rule, x: Statement) -> Lane
-    ensures { result ≡ beside_first (number_of_rule rule) x }
+// The partners of the first premise x: itself where it is the only one, the second of two, or the third of three.
+fn beside_first(rule: Rule, newest: usize, x: Statement) -> Lane
+    ensures { result ≡ beside_first (number_of_rule rule) newest x }
 {
     let target = target_key(x);
     let role = x.shape == ROLE_INCLUSION;
@@ -102,7 +104,7 @@ fn beside_first(rule: Rule, x: Statement) -> Lane
         Rule::ExistentialChained => when(existential, starting(ROLE_CHAIN, inner_key(x))),
         Rule::ExistentialMet => when(existential, starting(EXISTENTIAL_LEFT, target)),
         Rule::ConjunctionMet => when(nested, starting(CONJUNCTION_LEFT, target)),
-        _ => Lane::Nowhere,
+        _ => Lane::Alone(newest),
     }
 }
 
@@ -167,12 +169,13 @@ fn beside_third(rule: Rule, x: Statement) -> Lane
     }
 }
 
-// Where the partners of the newest premise x are, by a rule with several: of the two others of three, that which is taken first.
-pub(crate) fn partners(rule: Rule, position: Position, x: Statement) -> Lane
-    ensures { result ≡ partners (number_of_rule rule) position x }
+// Where the partners of the newest premise x are: of the two others of three, that which is taken first. By a rule with one, the
+// newest is its own.
+pub(crate) fn partners(rule: Rule, position: Position, newest: usize, x: Statement) -> Lane
+    ensures { result ≡ partners (number_of_rule rule) position newest x }
 {
     match position {
-        Position::First => beside_first(rule, x),
+        Position::First => beside_first(rule, newest, x),
         Position::Second => beside_second(rule, x),
         Position::Third => beside_third(rule, x),
     }
@@ -215,6 +218,7 @@ impl<'a, G: Copy> Table<'a, G> {
     {
         match lane {
             Lane::Nowhere => None,
+            Lane::Alone(n) => (n < self.settled).then_some(n),
             Lane::Along(side, key) => self.spot(side, key).last,
             Lane::Outer(_) | Lane::Inside(_) => self.settled.checked_sub(1),
         }
@@ -226,7 +230,7 @@ impl<'a, G: Copy> Table<'a, G> {
         ensures { result ≡ last_in (track self.now.rows.now lane) (lane_bucket self.now.rows.now lane) k }
     {
         match lane {
-            Lane::Nowhere => None,
+            Lane::Nowhere | Lane::Alone(_) => None,
             Lane::Along(side, _) => self.chain(side, k).link,
             Lane::Outer(_) | Lane::Inside(_) => k.checked_sub(1),
         }
@@ -235,10 +239,11 @@ impl<'a, G: Copy> Table<'a, G> {
     // Whether the statement settled at k is on a lane: nodes that differ may share a bucket.
     pub(crate) fn is_along(&self, lane: Lane, k: usize) -> bool
         requires { k < self.now.settled }
-        ensures { Tells result (Within lane (settled_at self.now.rows.now k)) }
+        ensures { Tells result (Within lane k (settled_at self.now.rows.now k)) }
     {
         match lane {
             Lane::Nowhere => false,
+            Lane::Alone(n) => k == n,
             Lane::Along(side, key) => side.key(self.settled_statement(k)) == key,
             Lane::Outer(standpoint) => self.settled_statement(k).first == standpoint,
             Lane::Inside(standpoint) => {

@@ -1,10 +1,9 @@
 // The search for what follows from the newest settled statement.
-ghost use Rattle.std.specs.Prelude.{◌≡◌, ◌≢◌, ◌<◌, is_ok};
+ghost use Rattle.std.specs.Prelude.{◌≡◌, ◌<◌, is_ok};
 ghost use Rattle.standpoint.specs.RuleNumbers.{number_of_rule};
-ghost use Rattle.standpoint.specs.Rules.{arity_of};
 ghost use Rattle.saturation.specs.Tables.{view, Same, statement_at, turn_at};
 ghost use Rattle.saturation.specs.Places.{Uses};
-ghost use Rattle.saturation.specs.Searching.{OnLane, Went, Lasts, Around, Beside};
+ghost use Rattle.saturation.specs.Searching.{OnLane, Went, Lasts, Around};
 
 use crate::attempt::Inference;
 use crate::lane::{Lane, last_lane, partners};
@@ -40,8 +39,7 @@ impl<'a, G: Copy> Table<'a, G> {
         Ok(())
     }
 
-    // What a rule with several premises gives with the newest at this position and the one settled at i as its partner, if that is
-    // on this lane.
+    // What a rule gives with the newest at this position and the one settled at i as its partner, if that is on this lane.
     fn around<K: Kind<Grade = G>>(
         &mut self,
         inference: &Inference<'_, K>,
@@ -50,56 +48,17 @@ impl<'a, G: Copy> Table<'a, G> {
         lane: Lane,
         i: usize,
     ) -> Result<(), NoRow>
-        requires { (newest < self.old.settled) × (i < self.old.settled) × (arity_of (number_of_rule inference.now.rule) ≢ 1) }
+        requires { (newest < self.old.settled) × (i < self.old.settled) }
         ensures same { Same self.old self.new }
         ensures state { Went (K.Kind.algebra inference.now.kind.now) inference.now.individuals (view self.old) (view self.new) (λ l o. OnLane lane l i × Around (K.Kind.algebra inference.now.kind.now) inference.now.individuals (number_of_rule inference.now.rule) position newest i l o) (λ l. Uses (K.Kind.algebra inference.now.kind.now) inference.now.individuals l newest) (is_ok result) }
     {
-        if inference.rule.arity() == 2 {
-            return self.attempt_along(inference, lane, i, position.pair(newest, i));
-        }
         if !self.is_along(lane, i) {
             return Ok(());
         }
-        self.lasts(inference, position, newest, i)
-    }
-
-    // The same with every partner.
-    fn along<K: Kind<Grade = G>>(
-        &mut self,
-        inference: &Inference<'_, K>,
-        position: Position,
-        newest: usize,
-    ) -> Result<(), NoRow>
-        requires { (newest < self.old.settled) × (arity_of (number_of_rule inference.now.rule) ≢ 1) }
-        ensures same { Same self.old self.new }
-        ensures state { Went (K.Kind.algebra inference.now.kind.now) inference.now.individuals (view self.old) (view self.new) (Beside (K.Kind.algebra inference.now.kind.now) inference.now.individuals (number_of_rule inference.now.rule) position newest) (λ l. Uses (K.Kind.algebra inference.now.kind.now) inference.now.individuals l newest) (is_ok result) }
-    {
-        let lane = partners(inference.rule, position, self.settled_statement(newest));
-        let mut at = self.last_along(lane);
-        while let Some(i) = at {
-            self.around(inference, position, newest, lane, i)?;
-            at = self.next_along(lane, i);
-        }
-        Ok(())
-    }
-
-    // All that a rule gives with the newest at this position.
-    fn beside<K: Kind<Grade = G>>(
-        &mut self,
-        inference: &Inference<'_, K>,
-        position: Position,
-        newest: usize,
-    ) -> Result<(), NoRow>
-        requires { newest < self.old.settled }
-        ensures same { Same self.old self.new }
-        ensures state { Went (K.Kind.algebra inference.now.kind.now) inference.now.individuals (view self.old) (view self.new) (Beside (K.Kind.algebra inference.now.kind.now) inference.now.individuals (number_of_rule inference.now.rule) position newest) (λ l. Uses (K.Kind.algebra inference.now.kind.now) inference.now.individuals l newest) (is_ok result) }
-    {
-        if inference.rule.arity() != 1 {
-            return self.along(inference, position, newest);
-        }
-        match position {
-            Position::First => self.attempt(inference, Places::One(newest)),
-            Position::Second | Position::Third => Ok(()),
+        match inference.rule.arity() {
+            1 => self.attempt(inference, Places::One(newest)),
+            2 => self.attempt(inference, position.pair(newest, i)),
+            _ => self.lasts(inference, position, newest, i),
         }
     }
 
@@ -114,8 +73,9 @@ impl<'a, G: Copy> Table<'a, G> {
         ensures same { Same self.old self.new }
         ensures state { Went (K.Kind.algebra kind.now) individuals (view self.old) (view self.new) (λ l. Uses (K.Kind.algebra kind.now) individuals l newest) (λ l. Uses (K.Kind.algebra kind.now) individuals l newest) (is_ok result) }
     {
-        // Both loops are left by the label of the outer one: the first consequence that finds no row ends the search for all.
+        let x = self.settled_statement(newest);
         let mut outcome = Ok(());
+        // All loops are left by this label: the first consequence that finds no row ends the search for all.
         'search: for rule in Rule::ALL {
             let inference = Inference {
                 kind,
@@ -123,9 +83,14 @@ impl<'a, G: Copy> Table<'a, G> {
                 rule,
             };
             for position in Position::ALL {
-                outcome = self.beside(&inference, position, newest);
-                if outcome.is_err() {
-                    break 'search;
+                let lane = partners(rule, position, newest, x);
+                let mut at = self.last_along(lane);
+                while let Some(i) = at {
+                    outcome = self.around(&inference, position, newest, lane, i);
+                    if outcome.is_err() {
+                        break 'search;
+                    }
+                    at = self.next_along(lane, i);
                 }
             }
         }

@@ -1,4 +1,4 @@
-use Rattle.std.proofs.Common.{◌≡◌, ℕ, Bool, true, false, List, Option, None, is_ok, ap, sym, refl, subst, arith}
+use Rattle.std.proofs.Common.{◌≡◌, ℕ, true, false, List, Option, None, is_ok, ap, sym, refl, subst}
 use Rattle.std.proofs.lemmas.Result.{err_from_is_err_and}
 use Rattle.standpoint.specs.RuleNumbers.{number_of_rule}
 use Rattle.saturation.specs.declared.lane.Lane.{Lane}
@@ -7,10 +7,10 @@ use Rattle.saturation.specs.Tables.{view}
 use Rattle.saturation.specs.Places.{Step}
 use Rattle.saturation.specs.Searching.{Went, OnLane}
 use Rattle.saturation.proofs.Enumerating.{Last, Using, went_last, went_lasts}
-use Rattle.saturation.proofs.Chaining.{on_last, link_falls}
+use Rattle.saturation.proofs.Chaining.{link_falls}
 use Rattle.saturation.proofs.Sameness.{same_then}
 use Rattle.saturation.proofs.Searches.{went_stopped}
-use Rattle.saturation.proofs.Walking.{Standing, From, walk_start, walk_next}
+use Rattle.saturation.proofs.Walking.{From, walk_start, walk_next}
 use Rattle.saturation.proofs.table.Table.lasts.Goals as goal
 
 pub loop-at-init : goal.loop-at-init
@@ -20,11 +20,8 @@ loop-at-init g c =
     let rule = number_of_rule c.args.inference.now.rule in
     let t = c.args.self.now in
     let n = c.args.newest in
-    let lane = c.last_lane-lane.result in (
-      (refl, refl, refl),
-      on_last (track t.rows.now lane) (lane_bucket t.rows.now lane) t.settled t.settled c.last_along-at.result (omega arith) c.last_along-at.ensures,
-      walk_start al v lane (Last al v rule c.args.position n c.args.i) (Using al v n) (view t) c.last_along-at.result c.last_along-at.ensures,
-    )
+    let lane = c.last_lane-lane.result in
+    ((refl, refl, refl), walk_start al v lane (Last al v rule c.args.position n c.args.i) (Using al v n) (view t) c.last_along-at.result c.last_along-at.ensures)
 
 pub returns-in_err-attempt_along-clause-state : goal.returns-in_err-attempt_along-clause-state
 returns-in_err-attempt_along-clause-state g c =
@@ -42,7 +39,7 @@ returns-in_err-attempt_along-clause-state g c =
     let here = went_last al v rule c.args.position n m u (λ l o. OnLane lane l c.in-Some.j × F c.in-Some.j l o) c.args.i c.in-Some.j (is_ok c.attempt_along.result)
     (subst (λ (ks : List ℕ). Went al v m u (λ l o. OnLane lane l c.in-Some.j × Step al v l rule ks o) (λ l. Step al v l rule ks) (is_ok c.attempt_along.result)) c.arrange-places.ensures c.attempt_along.ensures.state) in
     subst (Went al v (view t) u _ (Using al v n)) (sym out)
-    (went_stopped al v (view t) m u (From lane F c.loop-at.at) (λ l o. OnLane lane l c.in-Some.j × F c.in-Some.j l o) _ (Using al v n) true (is_ok c.attempt_along.result) (t.settled_fit, t.turns) refl off c.loop-at.invariant.2 here)
+    (went_stopped al v (view t) m u (From lane F c.loop-at.at) (λ l o. OnLane lane l c.in-Some.j × F c.in-Some.j l o) _ (Using al v n) true (is_ok c.attempt_along.result) (t.settled_fit, t.turns) refl off c.loop-at.invariant.1.1 here)
 
 pub loop-at-smaller : goal.loop-at-smaller
 loop-at-smaller g c =
@@ -63,16 +60,10 @@ loop-at-preserved g c =
     let lane = c.last_lane-lane.result in
     let F = Last al v rule c.args.position n c.args.i in
     let on : is_ok c.attempt_along.result ≡ true = ap is_ok c.in_ok-attempt_along.was in
-    let stands = subst (λ (at : Option ℕ). Standing m.rows m.settled lane at) c.in-Some.is c.loop-at.invariant.1 in
-    let below = stands.0 in
-    let same = c.attempt_along.ensures.state.grown.settled in
-    let so_far = subst (λ (at : Option ℕ). Went al v (view t) m (From lane F at) (Using al v n) true) c.in-Some.is c.loop-at.invariant.2 in
     let here = went_last al v rule c.args.position n m u (λ l o. OnLane lane l c.in-Some.j × F c.in-Some.j l o) c.args.i c.in-Some.j (is_ok c.attempt_along.result)
-    (subst (λ (ks : List ℕ). Went al v m u (λ l o. OnLane lane l c.in-Some.j × Step al v l rule ks o) (λ l. Step al v l rule ks) (is_ok c.attempt_along.result)) c.arrange-places.ensures c.attempt_along.ensures.state) in
-    let made = subst (λ (b : Bool). Went al v m u (λ l o. OnLane lane l k × F k l o) (Using al v n) b) on here in (
+    (subst (λ (ks : List ℕ). Went al v m u (λ l o. OnLane lane l c.in-Some.j × Step al v l rule ks o) (λ l. Step al v l rule ks) (is_ok c.attempt_along.result)) c.arrange-places.ensures c.attempt_along.ensures.state) in (
       same_then c.loop-at.invariant.0 c.attempt_along.ensures.same,
-      on_last (track u.rows lane) (lane_bucket u.rows lane) k u.settled c.next_along-at.result (omega arith) c.next_along-at.ensures,
-      walk_next al v lane F (Using al v n) (view t) m u k c.next_along-at.result (t.settled_fit, t.turns) c.next_along-at.ensures so_far made,
+      walk_next al v lane F (Using al v n) (view t) m u c.loop-at.at k c.next_along-at.result (is_ok c.attempt_along.result) (t.settled_fit, t.turns) c.in-Some.is c.next_along-at.ensures on c.loop-at.invariant.1 here,
     )
 
 pub returns-clause-state : goal.returns-clause-state
@@ -85,6 +76,6 @@ returns-clause-state g c =
     let n = c.args.newest in
     let lane = c.last_lane-lane.result in
     let F = Last al v rule c.args.position n c.args.i in
-    let all = subst (λ (at : Option ℕ). Went al v (view t) m (From lane F at) (Using al v n) true) c.in_default.is c.loop-at.invariant.2 in
+    let all = subst (λ (at : Option ℕ). Went al v (view t) m (From lane F at) (Using al v n) true) c.in_default.is c.loop-at.invariant.1.1 in
     went_lasts al v rule c.args.position n (view t) m c.settled_statement-x.result c.settled_statement-y.result c.args.i c.requires.0 c.requires.1 c.settled_statement-x.ensures c.settled_statement-y.ensures
     (subst (λ (w : Lane). Went al v (view t) m (From w F None) (Using al v n) true) c.last_lane-lane.ensures all)

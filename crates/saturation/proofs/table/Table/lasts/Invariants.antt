@@ -1,9 +1,7 @@
-use Rattle.std.proofs.Common.{true}
 use Rattle.standpoint.specs.RuleNumbers.{number_of_rule}
 use Rattle.saturation.specs.Tables.{view, Same}
-use Rattle.saturation.specs.Searching.{Went}
 use Rattle.saturation.proofs.Chaining.{walk_left}
-use Rattle.saturation.proofs.Walking.{Standing, From}
+use Rattle.saturation.proofs.Walking.{Walk}
 use Rattle.saturation.proofs.Enumerating.{Last, Using}
 use Rattle.saturation.proofs.table.Table.lasts.Given as goal
 
@@ -12,8 +10,7 @@ abbrev pub invariant-loop-at : goal.invariant-loop-at
 invariant-loop-at g l =
     let al = g.K.Kind.algebra l.inference.kind.now in
     let v = l.inference.individuals in
-    Same l.initial.self l.self × Standing l.self.rows.now l.self.settled l.lane l.at
-    × Went al v (view l.initial.self) (view l.self) (From l.lane (Last al v (number_of_rule l.inference.rule) l.position l.newest l.i) l.at) (Using al v l.newest) true
+    Same l.initial.self l.self × Walk al v l.lane (Last al v (number_of_rule l.inference.rule) l.position l.newest l.i) (Using al v l.newest) (view l.initial.self) (view l.self) l.at
 
 abbrev pub decreases-loop-at : goal.decreases-loop-at
 decreases-loop-at g l = walk_left l.at

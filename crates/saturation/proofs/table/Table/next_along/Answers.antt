@@ -3,8 +3,11 @@ use Rattle.saturation.specs.declared.row.Chain.{Chain}
 use Rattle.saturation.specs.declared.lane.Lane.{Lane}
 use Rattle.saturation.specs.Chains.{last_in}
 use Rattle.saturation.specs.Lanes.{track, lane_bucket}
-use Rattle.saturation.proofs.Walking.{link_along, last_by_number}
+use Rattle.saturation.proofs.Walking.{none_from, link_along, last_by_number}
 use Rattle.saturation.proofs.table.Table.next_along.Goals as goal
+
+pub returns-in-Nowhere : goal.returns-in-Nowhere
+returns-in-Nowhere g c = none_from c.args.self.now.rows.now c.args.lane c.args.k c.in-Nowhere.is c.requires.1
 
 pub returns-in-Along : goal.returns-in-Along
 returns-in-Along g c =
