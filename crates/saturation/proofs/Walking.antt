@@ -6,11 +6,12 @@ use Rattle.standpoint.specs.declared.statement.Statement.{Statement}
 use Rattle.standpoint.specs.Algebra.{Algebra}
 use Rattle.saturation.specs.declared.row.Row.{Row}
 use Rattle.saturation.specs.declared.lane.Lane.{Lane}
-use Rattle.saturation.specs.declared.lane.Lane.TheVariants.{Nowhere, Alone, Along, Outer, Inside}
-use Rattle.saturation.specs.declared.side.Key.{Key}
+use Rattle.saturation.specs.declared.lane.Lane.TheVariants.{Nowhere, Alone, Along, AlongIn, Only, Necessary, Outer, Inside}
 use Rattle.saturation.specs.declared.side.Side.{Side}
 use Rattle.saturation.specs.Chains.{last_in, links_in}
-use Rattle.saturation.specs.Sides.{key_bucket, chain_of, settled_at, side_bucket, Sided}
+use Rattle.saturation.specs.declared.side.Side.TheVariants.{Target}
+use Rattle.saturation.specs.Buckets.{bucket_of}
+use Rattle.saturation.specs.Sides.{node_of, chain_of, settled_at, side_bucket, Sided}
 use Rattle.saturation.specs.Lanes.{Within, track, lane_bucket}
 use Rattle.saturation.specs.Tables.{State}
 use Rattle.saturation.specs.Searching.{Lists, Went, OnLane}
@@ -23,14 +24,41 @@ use Rattle.saturation.proofs.Searches.{Family, went_none, went_then, went_as}
 pub tracked : (rows : List Row) (lane : Lane) (k : ℕ) → Within lane k (settled_at rows k) → track rows lane k ≡ lane_bucket rows lane
 tracked rows Nowhere k within = absurd within
 tracked rows (Alone n) k within = within
-tracked rows (Along side node) k within = ap (key_bucket (length rows)) within
+tracked rows (Along side node) k within = ap (bucket_of (length rows)) within
+tracked rows (AlongIn standpoint side node) k within = ap (bucket_of (length rows)) within.1
+tracked rows (Only side x) k within = ap (λ (y : Statement). bucket_of (length rows) (node_of side y)) within
+tracked rows (Necessary node) k within = ap (bucket_of (length rows)) within.1
 tracked rows (Outer standpoint) k within = refl
 tracked rows (Inside standpoint) k within = refl
 
 -- the link of a place on a lane
-pub link_along : (rows : List Row) (settled : ℕ) → Sided rows settled → (side : Side) (node : Key) (k : ℕ) → k < settled → side_bucket side rows k ≡ key_bucket (length rows) node →
-    links_in (chain_of side) rows k ≡ last_in (side_bucket side rows) (key_bucket (length rows) node) k
-link_along rows settled sides side node k h here = (sides side).back k h ∙ ap (λ (b : ℕ). last_in (side_bucket side rows) b k) here
+pub link_along : (rows : List Row) (settled : ℕ) → Sided rows settled → (side : Side) (bucket k : ℕ) → k < settled → side_bucket side rows k ≡ bucket →
+    links_in (chain_of side) rows k ≡ last_in (side_bucket side rows) bucket k
+link_along rows settled sides side bucket k h here = (sides side).back k h ∙ ap (λ (b : ℕ). last_in (side_bucket side rows) b k) here
+
+-- a lane along this side
+abbrev pub Sidewise : Lane → Side → Type 0
+Sidewise lane side = ((x : Statement) × (lane ≡ Along side x)) ⊎ (((s : ℕ) × (x : Statement) × (lane ≡ AlongIn s side x)) ⊎ ((x : Statement) × (lane ≡ Only side x)))
+
+module _ (rows : List Row) (settled : ℕ) (sides : Sided rows settled) (lane : Lane) (k : ℕ) (below : k < settled) (here : track rows lane k ≡ lane_bucket rows lane) where
+  abbrev Linked : Side → Lane → Type 0
+  Linked side w = track rows w k ≡ lane_bucket rows w → links_in (chain_of side) rows k ≡ last_in (track rows w) (lane_bucket rows w) k
+
+  linked_as : (side : Side) (w : Lane) → lane ≡ w → Linked side w → links_in (chain_of side) rows k ≡ last_in (track rows lane) (lane_bucket rows lane) k
+  linked_as side w is linked = subst (Linked side) (sym is) linked here
+
+  pub link_sidewise : (side : Side) → Sidewise lane side → links_in (chain_of side) rows k ≡ last_in (track rows lane) (lane_bucket rows lane) k
+  link_sidewise side which =
+      ⊎_elim
+      (λ w. linked_as side (Along side w.0) w.1 (link_along rows settled sides side _ k below))
+      (λ other. ⊎_elim
+      (λ w. linked_as side (AlongIn w.0 side w.1) w.2 (link_along rows settled sides side _ k below))
+      (λ w. linked_as side (Only side w.0) w.1 (link_along rows settled sides side _ k below))
+      other)
+      which
+
+  pub link_necessary : (x : Statement) → lane ≡ Necessary x → links_in (chain_of Target) rows k ≡ last_in (track rows lane) (lane_bucket rows lane) k
+  link_necessary x is = linked_as Target (Necessary x) is (link_along rows settled sides Target _ k below)
 
 pub last_nowhere : (rows : List Row) (n : ℕ) → last_in (track rows Nowhere) 1 n ≡ None
 last_nowhere rows zero = refl

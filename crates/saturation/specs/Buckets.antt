@@ -6,13 +6,17 @@ use Rattle.saturation.specs.declared.row.Row.{Row}
 use Rattle.saturation.specs.Rows.{chain, no_row}
 use Rattle.saturation.specs.Chains.{RowsChained}
 
+-- three numbers in one
+abbrev pub triple : ℕ → ℕ → ℕ → ℕ
+triple a b c = (a * 2 ^ 16 + b) * 2 ^ 16 + c
+
 -- one number more is mixed in
 unfoldable pub mixed : ℕ → ℕ → ℕ
 mixed hash number = (hash + number) % 2 ^ 64 * SPREAD % 2 ^ 64
 
 -- the bucket of a statement among so many
 unfoldable pub bucket_of : ℕ → Statement → ℕ
-bucket_of buckets x = mixed (mixed (mixed (mixed (mixed (mixed 0 x.shape) x.first) x.second) x.third) x.fourth) x.fifth / 2 ^ 32 % buckets
+bucket_of buckets x = mixed (mixed 0 (triple x.first x.second x.third)) (triple x.shape x.fourth x.fifth) / 2 ^ 32 % buckets
 
 -- there are as many buckets as rows
 abbrev pub bucket_at : List Row → ℕ → ℕ

@@ -27,6 +27,7 @@ no_row = record {
   source = no_chain;
   target = no_chain;
   inner = no_chain;
+  ending = no_chain;
 }
 
 -- each turn so far settled a taken row

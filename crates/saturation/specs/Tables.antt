@@ -9,8 +9,8 @@ use Rattle.saturation.specs.Chains.{last_in}
 use Rattle.saturation.specs.Buckets.{bucket_of, bucket_at, entered}
 use Rattle.saturation.specs.declared.side.Spot.{Spot}
 use Rattle.saturation.specs.declared.side.Side.{Side}
-use Rattle.saturation.specs.declared.side.Side.TheVariants.{Source, Target, Inner}
-use Rattle.saturation.specs.Sides.{key_of, spot_of, settled_rows}
+use Rattle.saturation.specs.declared.side.Side.TheVariants.{Source, Target, Inner, Ending}
+use Rattle.saturation.specs.Sides.{node_of, spot_of, settled_rows}
 
 -- the rows, the grades beside them, and how many are taken and settled
 pub record State (G : Type 0) : Type 0 where
@@ -89,12 +89,12 @@ improved s i g k = record { rows = slice_set s.rows i (rekept (row_at s i) k); g
 
 -- where row i goes in the chains of a side
 abbrev pub spot_at : {G : Type 0} → Side → State G → ℕ → Spot
-spot_at side s i = spot_of side s.rows s.settled (key_of side (statement_at s i))
+spot_at side s i = spot_of side s.rows s.settled (node_of side (statement_at s i))
 
 -- row i is settled in the next turn
 abbrev pub settled_row : {G : Type 0} → State G → ℕ → State G
 settled_row s i = record {
-  rows = settled_rows s.rows s.settled i (spot_at Source s i) (spot_at Target s i) (spot_at Inner s i);
+  rows = settled_rows s.rows s.settled i (spot_at Source s i) (spot_at Target s i) (spot_at Inner s i) (spot_at Ending s i);
   grades = s.grades;
   len = s.len;
   settled = s.settled + 1;

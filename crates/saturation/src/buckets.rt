@@ -1,7 +1,7 @@
 // The index inside the rows: there are as many buckets as rows, and a statement is looked for in its own.
 ghost use Rattle.std.specs.Prelude.{◌≡◌, ◌<◌, length};
 ghost use Rattle.saturation.specs.Chains.{last_in};
-ghost use Rattle.saturation.specs.Buckets.{mixed, bucket_of, bucket_at, entered};
+ghost use Rattle.saturation.specs.Buckets.{triple, mixed, bucket_of, bucket_at, entered};
 
 use crate::row::Row;
 use crate::table::Table;
@@ -10,11 +10,18 @@ use standpoint::Statement;
 // 2^64 by the golden ratio: what differs in one small number is far apart in the high bits.
 const SPREAD: u64 = 0x9E37_79B9_7F4A_7C15;
 
+// Three numbers in one.
+fn triple(first: u16, second: u16, third: u16) -> u64
+    ensures { result ≡ triple first second third }
+{
+    (u64::from(first) * 0x1_0000 + u64::from(second)) * 0x1_0000 + u64::from(third)
+}
+
 // One number more is mixed in.
-pub(crate) fn mixed(hash: u64, number: u16) -> u64
+fn mixed(hash: u64, number: u64) -> u64
     ensures { result ≡ mixed hash number }
 {
-    hash.wrapping_add(u64::from(number)).wrapping_mul(SPREAD)
+    hash.wrapping_add(number).wrapping_mul(SPREAD)
 }
 
 // The bucket of a statement among so many, by the high bits, in which every number has a part.
@@ -23,12 +30,16 @@ pub(crate) fn bucket_of(statement: Statement, buckets: usize) -> usize
     ensures value { result ≡ bucket_of buckets statement }
     ensures within { result < buckets }
 {
-    let hash = mixed(0, u16::from(statement.shape));
-    let hash = mixed(hash, statement.first);
-    let hash = mixed(hash, statement.second);
-    let hash = mixed(hash, statement.third);
-    let hash = mixed(hash, statement.fourth);
-    let hash = mixed(hash, statement.fifth);
+    let Statement {
+        shape,
+        first,
+        second,
+        third,
+        fourth,
+        fifth,
+    } = statement;
+    let hash = mixed(0, triple(first, second, third));
+    let hash = mixed(hash, triple(u16::from(shape), fourth, fifth));
     (hash >> 32) as usize % buckets
 }
 

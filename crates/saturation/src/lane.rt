@@ -2,13 +2,15 @@
 ghost use Rattle.std.specs.Prelude.{◌≡◌, ◌<◌, length};
 ghost use Rattle.standpoint.specs.Lists.{Tells};
 ghost use Rattle.standpoint.specs.RuleNumbers.{number_of_rule};
-ghost use Rattle.saturation.specs.declared.side.Side.TheVariants.{Source, Target};
+ghost use Rattle.saturation.specs.declared.lane.Lane.TheVariants.{Along, AlongIn, Only, Necessary};
+ghost use Rattle.saturation.specs.declared.side.Side.TheVariants.{Source, Target, Inner, Ending};
+ghost use Rattle.standpoint.specs.Statements.{statement};
 ghost use Rattle.saturation.specs.Chains.{last_in};
-ghost use Rattle.saturation.specs.Sides.{key, settled_at};
-ghost use Rattle.saturation.specs.Lanes.{when, along, beside_first, beside_second, beside_third, partners, last_lane, Within, track, lane_bucket};
+ghost use Rattle.saturation.specs.Sides.{settled_at};
+ghost use Rattle.saturation.specs.Lanes.{when, inclusion_first, beside_first, inclusion_second, beside_second, beside_third, partners, last_lane, Within, track, lane_bucket};
 
 use crate::places::Position;
-use crate::side::{Key, Side, inner_key, source_key, target_key};
+use crate::side::Side;
 use crate::table::Table;
 use standpoint::shape::{
     CONJUNCTION_LEFT, EXISTENTIAL_LEFT, EXISTENTIAL_RIGHT, INTERSECTION_SHARPER, NESTED_INCLUSION,
@@ -22,25 +24,17 @@ pub(crate) enum Lane {
     // This place alone.
     Alone(usize),
     // With this node on this side.
-    Along(Side, Key),
+    Along(Side, Statement),
+    // The same, but in this standpoint alone: it is the first number.
+    AlongIn(u16, Side, Statement),
+    // This statement alone, by its node on this side.
+    Only(Side, Statement),
+    // With this node as target, and top as fourth number.
+    Necessary(Statement),
     // Of any shape, whose first number is this standpoint.
     Outer(u16),
     // Nested inclusions whose third number is this standpoint.
     Inside(u16),
-}
-
-// The statements of a shape whose node on a side has the two names of this one.
-fn along(side: Side, shape: u8, node: Key) -> Lane
-    ensures { result ≡ along side shape node }
-{
-    Lane::Along(
-        side,
-        Key {
-            shape,
-            first: node.first,
-            second: node.second,
-        },
-    )
 }
 
 fn when(holds: bool, lane: Lane) -> Lane
@@ -49,62 +43,154 @@ fn when(holds: bool, lane: Lane) -> Lane
     if holds { lane } else { Lane::Nowhere }
 }
 
+// The statements that start at a node.
+fn starting(node: Statement) -> Lane
+    ensures { result ≡ Along Source node }
+{
+    Lane::Along(Side::Source, node)
+}
+
+// The statements that end at a node.
+fn ending(node: Statement) -> Lane
+    ensures { result ≡ Along Target node }
+{
+    Lane::Along(Side::Target, node)
+}
+
 // The sharpenings to a standpoint.
-fn sharpened_to(standpoint: u16) -> Key
-    ensures { result ≡ key 1 0 standpoint }
+fn sharpened_to(standpoint: u16) -> Lane
+    ensures { result ≡ Along Target (statement 1 0 standpoint 0 0 0) }
 {
-    Key {
-        shape: SHARPER,
-        first: 0,
-        second: standpoint,
+    ending(Statement::sharper(0, standpoint))
+}
+
+// The nested inclusions that start at c of s.
+fn nested_from(s: u16, c: u16) -> Lane
+    ensures { result ≡ Along Source (statement 3 s c 0 0 0) }
+{
+    starting(Statement::nested_inclusion(s, c, 0, 0, 0))
+}
+
+// The possible inclusions that start at c of s.
+fn possible_from(s: u16, c: u16) -> Lane
+    ensures { result ≡ Along Source (statement 4 s c 0 0 0) }
+{
+    starting(Statement::possible_inclusion(s, c, 0, 0))
+}
+
+// The possible inclusions that end at d of s.
+fn possible_to(s: u16, d: u16) -> Lane
+    ensures { result ≡ Along Target (statement 4 0 0 s d 0) }
+{
+    ending(Statement::possible_inclusion(0, 0, s, d))
+}
+
+// The nested inclusions within b of t that start inside at c of s.
+fn inside_from(t: u16, b: u16, s: u16, c: u16) -> Lane
+    ensures { result ≡ AlongIn t Inner (statement 3 0 b s c 0) }
+{
+    Lane::AlongIn(
+        t,
+        Side::Inner,
+        Statement::nested_inclusion(0, b, s, c, 0),
+    )
+}
+
+// The nested inclusions within b of t that end inside at d of s.
+fn inside_to(t: u16, b: u16, s: u16, d: u16) -> Lane
+    ensures { result ≡ AlongIn t Ending (statement 3 0 b s 0 d) }
+{
+    Lane::AlongIn(
+        t,
+        Side::Ending,
+        Statement::nested_inclusion(0, b, s, 0, d),
+    )
+}
+
+// The nested inclusions within top that end inside at d of s.
+fn subsumed_to(s: u16, d: u16) -> Lane
+    ensures { result ≡ Along Ending (statement 3 0 0 s 0 d) }
+{
+    Lane::Along(Side::Ending, Statement::nested_inclusion(0, 0, s, 0, d))
+}
+
+// The nested inclusions of top inside that end at d of s.
+fn necessary_to(s: u16, d: u16) -> Lane
+    ensures { result ≡ Necessary (statement 3 0 0 s 0 d) }
+{
+    Lane::Necessary(Statement::nested_inclusion(0, 0, s, 0, d))
+}
+
+// The partners of the first premise x of a rule on inclusions: the second. By a rule with one premise, itself.
+fn inclusion_first(rule: Rule, newest: usize, x: Statement) -> Lane
+    ensures { result ≡ inclusion_first (number_of_rule rule) newest x }
+{
+    let (t, b, s, c, d) = (x.first, x.second, x.third, x.fourth, x.fifth);
+    let nested = x.shape == NESTED_INCLUSION;
+    let subsumed = nested && b == 0;
+    let necessary = nested && c == 0;
+    let possible = x.shape == POSSIBLE_INCLUSION;
+    match rule {
+        Rule::InsideTransitive => when(nested, inside_from(t, b, s, d)),
+        Rule::SubsumedNested => when(subsumed, nested_from(s, d)),
+        Rule::SubsumedPossible => when(subsumed, possible_from(s, d)),
+        Rule::PossibleWidened => when(possible, inside_from(t, b, s, c)),
+        Rule::NecessaryThenNested => when(necessary, nested_from(s, d)),
+        Rule::NecessaryThenPossible => when(necessary, possible_from(s, d)),
+        Rule::PossibleThenNested => when(possible, nested_from(s, c)),
+        Rule::PossibleThenPossible => when(possible, possible_from(s, c)),
+        _ => Lane::Alone(newest),
     }
-}
-
-// The statements of a shape that start at a node.
-fn starting(shape: u8, node: Key) -> Lane
-    ensures { result ≡ along Source shape node }
-{
-    along(Side::Source, shape, node)
-}
-
-// The statements of a shape that end at a node.
-fn ending(shape: u8, node: Key) -> Lane
-    ensures { result ≡ along Target shape node }
-{
-    along(Side::Target, shape, node)
 }
 
 // The partners of the first premise x: itself where it is the only one, the second of two, or the third of three.
 fn beside_first(rule: Rule, newest: usize, x: Statement) -> Lane
     ensures { result ≡ beside_first (number_of_rule rule) newest x }
 {
-    let target = target_key(x);
+    let (first, second, third, fourth, fifth) = (x.first, x.second, x.third, x.fourth, x.fifth);
     let role = x.shape == ROLE_INCLUSION;
     let sharper = x.shape == SHARPER;
     let nested = x.shape == NESTED_INCLUSION;
-    let subsumed = nested && x.second == 0;
-    let necessary = nested && x.fourth == 0;
-    let possible = x.shape == POSSIBLE_INCLUSION;
     let existential = x.shape == EXISTENTIAL_RIGHT;
+    let roles = Statement::role_inclusion(first, third, 0);
+    let chains = Statement::role_chain(first, third, 0, 0);
+    let left = Statement::existential_left(first, third, fourth, 0);
+    let conjunctions = Statement::conjunction_left(third, fifth, 0, 0);
     match rule {
-        Rule::RoleTransitive => when(role, starting(ROLE_INCLUSION, target)),
-        Rule::SharperTransitive => when(sharper, starting(SHARPER, target)),
-        Rule::SharperThanBoth => when(sharper, starting(INTERSECTION_SHARPER, target)),
-        Rule::Lowered => ending(SHARPER, sharpened_to(x.first)),
-        Rule::LoweredInside => when(nested, ending(SHARPER, sharpened_to(x.third))),
-        Rule::InsideTransitive => when(nested, along(Side::Inner, NESTED_INCLUSION, target)),
-        Rule::SubsumedNested => when(subsumed, starting(NESTED_INCLUSION, target)),
-        Rule::SubsumedPossible => when(subsumed, starting(POSSIBLE_INCLUSION, target)),
-        Rule::PossibleWidened => when(possible, starting(NESTED_INCLUSION, source_key(x))),
-        Rule::NecessaryThenNested => when(necessary, starting(NESTED_INCLUSION, target)),
-        Rule::NecessaryThenPossible => when(necessary, starting(POSSIBLE_INCLUSION, target)),
-        Rule::PossibleThenNested => when(possible, starting(NESTED_INCLUSION, target)),
-        Rule::PossibleThenPossible => when(possible, starting(POSSIBLE_INCLUSION, target)),
-        Rule::ExistentialWidened => when(existential, starting(ROLE_INCLUSION, inner_key(x))),
-        Rule::ExistentialChained => when(existential, starting(ROLE_CHAIN, inner_key(x))),
-        Rule::ExistentialMet => when(existential, starting(EXISTENTIAL_LEFT, target)),
-        Rule::ConjunctionMet => when(nested, starting(CONJUNCTION_LEFT, target)),
-        _ => Lane::Alone(newest),
+        Rule::RoleTransitive => when(role, starting(roles)),
+        Rule::SharperTransitive => when(sharper, starting(Statement::sharper(second, 0))),
+        Rule::SharperThanBoth => when(
+            sharper,
+            starting(Statement::intersection_sharper(second, 0, 0)),
+        ),
+        Rule::Lowered => sharpened_to(first),
+        Rule::LoweredInside => when(nested, sharpened_to(third)),
+        Rule::ExistentialWidened => when(existential, starting(roles)),
+        Rule::ExistentialChained => when(existential, starting(chains)),
+        Rule::ExistentialMet => when(existential, starting(left)),
+        Rule::ConjunctionMet => when(nested, starting(conjunctions)),
+        _ => inclusion_first(rule, newest, x),
+    }
+}
+
+// The partners of the second premise x of a rule on inclusions: the first.
+fn inclusion_second(rule: Rule, x: Statement) -> Lane
+    ensures { result ≡ inclusion_second (number_of_rule rule) x }
+{
+    let (t, b, s, c) = (x.first, x.second, x.third, x.fourth);
+    let nested = x.shape == NESTED_INCLUSION;
+    let possible = x.shape == POSSIBLE_INCLUSION;
+    let somewhere = Statement::possible_inclusion(t, b, s, c);
+    match rule {
+        Rule::InsideTransitive => when(nested, inside_to(t, b, s, c)),
+        Rule::SubsumedNested => when(nested, subsumed_to(t, b)),
+        Rule::SubsumedPossible => when(possible, subsumed_to(t, b)),
+        Rule::PossibleWidened => when(nested, Lane::Only(Side::Ending, somewhere)),
+        Rule::NecessaryThenNested => when(nested, necessary_to(t, b)),
+        Rule::NecessaryThenPossible => when(possible, necessary_to(t, b)),
+        Rule::PossibleThenNested => when(nested, possible_to(t, b)),
+        Rule::PossibleThenPossible => when(possible, possible_to(t, b)),
+        _ => Lane::Nowhere,
     }
 }
 
@@ -112,35 +198,27 @@ fn beside_first(rule: Rule, newest: usize, x: Statement) -> Lane
 fn beside_second(rule: Rule, x: Statement) -> Lane
     ensures { result ≡ beside_second (number_of_rule rule) x }
 {
-    let source = source_key(x);
-    let target = target_key(x);
-    let inner = inner_key(x);
-    let role = x.shape == ROLE_INCLUSION;
+    let (first, second, third, fourth, fifth) = (x.first, x.second, x.third, x.fourth, x.fifth);
     let sharper = x.shape == SHARPER;
     let nested = x.shape == NESTED_INCLUSION;
-    let subsumed = nested && x.second == 0;
-    let possible = x.shape == POSSIBLE_INCLUSION;
-    let existential = x.shape == EXISTENTIAL_RIGHT;
     let left = x.shape == EXISTENTIAL_LEFT;
+    let roles = Statement::role_inclusion(first, 0, second);
+    let both = Statement::intersection_sharper(0, second, 0);
+    let widened = Statement::existential_right(third, 0, 0, fourth);
+    let chains = Statement::role_chain(first, 0, third, 0);
+    let met = Statement::existential_right(first, 0, second, third);
+    let conjunctions = Statement::conjunction_left(third, 0, fifth, 0);
     match rule {
-        Rule::RoleTransitive => when(role, ending(ROLE_INCLUSION, source)),
-        Rule::SharperTransitive => when(sharper, ending(SHARPER, source)),
-        Rule::SharperThanBoth => when(sharper, ending(INTERSECTION_SHARPER, target)),
-        Rule::Lowered => when(sharper, Lane::Outer(x.second)),
-        Rule::LoweredInside => when(sharper, Lane::Inside(x.second)),
-        Rule::InsideTransitive => when(nested, ending(NESTED_INCLUSION, inner)),
-        Rule::SubsumedNested => when(nested, ending(NESTED_INCLUSION, source)),
-        Rule::SubsumedPossible => when(possible, ending(NESTED_INCLUSION, source)),
-        Rule::PossibleWidened => when(nested, starting(POSSIBLE_INCLUSION, source)),
-        Rule::NecessaryThenNested => when(nested, ending(NESTED_INCLUSION, source)),
-        Rule::NecessaryThenPossible => when(possible, ending(NESTED_INCLUSION, source)),
-        Rule::PossibleThenNested => when(nested, ending(POSSIBLE_INCLUSION, source)),
-        Rule::PossibleThenPossible => when(possible, ending(POSSIBLE_INCLUSION, source)),
-        Rule::ExistentialWidened => when(subsumed, ending(EXISTENTIAL_RIGHT, inner)),
-        Rule::ExistentialChained => when(existential, ending(ROLE_CHAIN, inner)),
-        Rule::ExistentialMet => when(left, ending(EXISTENTIAL_RIGHT, source)),
-        Rule::ConjunctionMet => when(nested, ending(CONJUNCTION_LEFT, target)),
-        _ => Lane::Nowhere,
+        Rule::RoleTransitive => when(x.shape == ROLE_INCLUSION, ending(roles)),
+        Rule::SharperTransitive => when(sharper, sharpened_to(first)),
+        Rule::SharperThanBoth => when(sharper, ending(both)),
+        Rule::Lowered => when(sharper, Lane::Outer(second)),
+        Rule::LoweredInside => when(sharper, Lane::Inside(second)),
+        Rule::ExistentialWidened => when(nested && second == 0, ending(widened)),
+        Rule::ExistentialChained => when(x.shape == EXISTENTIAL_RIGHT, ending(chains)),
+        Rule::ExistentialMet => when(left, Lane::Along(Side::Ending, met)),
+        Rule::ConjunctionMet => when(nested, ending(conjunctions)),
+        _ => inclusion_second(rule, x),
     }
 }
 
@@ -148,23 +226,16 @@ fn beside_second(rule: Rule, x: Statement) -> Lane
 fn beside_third(rule: Rule, x: Statement) -> Lane
     ensures { result ≡ beside_third (number_of_rule rule) x }
 {
+    let both = x.shape == INTERSECTION_SHARPER;
+    let conjunction = x.shape == CONJUNCTION_LEFT;
+    let existentials = Statement::existential_right(x.first, 0, x.second, 0);
+    let with_role = Lane::Along(Side::Inner, existentials);
+    let inclusions = Statement::nested_inclusion(0, 0, x.first, 0, x.second);
     match rule {
-        Rule::SharperThanBoth => when(
-            x.shape == INTERSECTION_SHARPER,
-            ending(SHARPER, source_key(x)),
-        ),
-        Rule::ExistentialWidened => when(
-            x.shape == ROLE_INCLUSION,
-            along(Side::Inner, EXISTENTIAL_RIGHT, source_key(x)),
-        ),
-        Rule::ExistentialChained => when(
-            x.shape == ROLE_CHAIN,
-            along(Side::Inner, EXISTENTIAL_RIGHT, source_key(x)),
-        ),
-        Rule::ConjunctionMet => when(
-            x.shape == CONJUNCTION_LEFT,
-            ending(NESTED_INCLUSION, source_key(x)),
-        ),
+        Rule::SharperThanBoth => when(both, sharpened_to(x.first)),
+        Rule::ExistentialWidened => when(x.shape == ROLE_INCLUSION, with_role),
+        Rule::ExistentialChained => when(x.shape == ROLE_CHAIN, with_role),
+        Rule::ConjunctionMet => when(conjunction, ending(inclusions)),
         _ => Lane::Nowhere,
     }
 }
@@ -181,31 +252,62 @@ pub(crate) fn partners(rule: Rule, position: Position, newest: usize, x: Stateme
     }
 }
 
+// This sharpening alone.
+fn sharpening(s: u16, u: u16) -> Lane
+    ensures { result ≡ Only Ending (statement 1 s u 0 0 0) }
+{
+    Lane::Only(Side::Ending, Statement::sharper(s, u))
+}
+
+// The inclusion within the same that ends at d in place of where x ends, alone.
+fn inclusion_to(x: Statement, d: u16) -> Lane
+    ensures { result ≡ Only Inner (statement 3 x.first x.second x.third x.fourth d) }
+{
+    Lane::Only(
+        Side::Inner,
+        Statement::nested_inclusion(x.first, x.second, x.third, x.fourth, d),
+    )
+}
+
+// The inclusions from where an existential ends.
+fn widening(x: Statement) -> Lane
+    ensures { result ≡ Along Inner (statement 3 0 0 x.first x.fourth 0) }
+{
+    Lane::Along(
+        Side::Inner,
+        Statement::nested_inclusion(0, 0, x.first, x.fourth, 0),
+    )
+}
+
+// The existentials of a role from where one ends.
+fn next_existential(x: Statement, role: u16) -> Lane
+    ensures { result ≡ Along Source (statement 5 x.first x.fourth role 0 0) }
+{
+    starting(Statement::existential_right(x.first, x.fourth, role, 0))
+}
+
 // Where the last of three premises are, beside the newest x and its partner y.
 pub(crate) fn last_lane(rule: Rule, position: Position, x: Statement, y: Statement) -> Lane
     ensures { result ≡ last_lane (number_of_rule rule) position x y }
 {
     match (rule, position) {
-        (Rule::SharperThanBoth, Position::First) => ending(SHARPER, target_key(y)),
-        (Rule::SharperThanBoth, Position::Second) => ending(SHARPER, source_key(y)),
-        (Rule::SharperThanBoth, Position::Third) => ending(SHARPER, target_key(x)),
-        (Rule::ExistentialWidened, Position::First) => {
-            along(Side::Inner, NESTED_INCLUSION, target_key(x))
+        (Rule::SharperThanBoth, Position::First) => sharpening(x.first, y.second),
+        (Rule::SharperThanBoth, Position::Second) => sharpening(x.first, y.first),
+        (Rule::SharperThanBoth, Position::Third) => sharpening(y.first, x.second),
+        (Rule::ExistentialWidened, Position::First) => widening(x),
+        (Rule::ExistentialWidened, Position::Second) => {
+            starting(Statement::role_inclusion(y.first, y.third, 0))
         }
-        (Rule::ExistentialWidened, Position::Second) => { starting(ROLE_INCLUSION, inner_key(y)) }
-        (Rule::ExistentialWidened, Position::Third) => {
-            along(Side::Inner, NESTED_INCLUSION, target_key(y))
-        }
-        (Rule::ExistentialChained, Position::First) => {
-            starting(EXISTENTIAL_RIGHT, target_key(x))
-        }
-        (Rule::ExistentialChained, Position::Second) => { ending(EXISTENTIAL_RIGHT, source_key(x)) }
-        (Rule::ExistentialChained, Position::Third) => {
-            starting(EXISTENTIAL_RIGHT, target_key(y))
-        }
-        (Rule::ConjunctionMet, Position::First) => { ending(NESTED_INCLUSION, target_key(y)) }
-        (Rule::ConjunctionMet, Position::Second) => { ending(NESTED_INCLUSION, source_key(y)) }
-        (Rule::ConjunctionMet, Position::Third) => { ending(NESTED_INCLUSION, target_key(x)) }
+        (Rule::ExistentialWidened, Position::Third) => widening(y),
+        (Rule::ExistentialChained, Position::First) => next_existential(x, y.third),
+        (Rule::ExistentialChained, Position::Second) => Lane::Along(
+            Side::Ending,
+            Statement::existential_right(x.first, 0, y.second, x.second),
+        ),
+        (Rule::ExistentialChained, Position::Third) => next_existential(y, x.third),
+        (Rule::ConjunctionMet, Position::First) => inclusion_to(x, y.third),
+        (Rule::ConjunctionMet, Position::Second) => inclusion_to(x, y.second),
+        (Rule::ConjunctionMet, Position::Third) => inclusion_to(y, x.third),
         _ => Lane::Nowhere,
     }
 }
@@ -219,7 +321,9 @@ impl<'a, G: Copy> Table<'a, G> {
         match lane {
             Lane::Nowhere => None,
             Lane::Alone(n) => (n < self.settled).then_some(n),
-            Lane::Along(side, key) => self.spot(side, key).last,
+            Lane::Along(side, node) | Lane::AlongIn(_, side, node) => self.spot(side, node).last,
+            Lane::Only(side, x) => self.spot(side, side.node(x)).last,
+            Lane::Necessary(node) => self.spot(Side::Target, node).last,
             Lane::Outer(_) | Lane::Inside(_) => self.settled.checked_sub(1),
         }
     }
@@ -231,12 +335,13 @@ impl<'a, G: Copy> Table<'a, G> {
     {
         match lane {
             Lane::Nowhere | Lane::Alone(_) => None,
-            Lane::Along(side, _) => self.chain(side, k).link,
+            Lane::Along(side, _) | Lane::AlongIn(_, side, _) | Lane::Only(side, _) => self.chain(side, k).link,
+            Lane::Necessary(_) => self.chain(Side::Target, k).link,
             Lane::Outer(_) | Lane::Inside(_) => k.checked_sub(1),
         }
     }
 
-    // Whether the statement settled at k is on a lane: nodes that differ may share a bucket.
+    // Whether the statement settled at k is on a lane: statements that differ may share a bucket.
     pub(crate) fn is_along(&self, lane: Lane, k: usize) -> bool
         requires { k < self.now.settled }
         ensures { Tells result (Within lane k (settled_at self.now.rows.now k)) }
@@ -244,7 +349,16 @@ impl<'a, G: Copy> Table<'a, G> {
         match lane {
             Lane::Nowhere => false,
             Lane::Alone(n) => k == n,
-            Lane::Along(side, key) => side.key(self.settled_statement(k)) == key,
+            Lane::Along(side, node) => side.node(self.settled_statement(k)) == node,
+            Lane::AlongIn(standpoint, side, node) => {
+                let y = self.settled_statement(k);
+                y.first == standpoint && side.node(y) == node
+            }
+            Lane::Only(_, x) => self.settled_statement(k) == x,
+            Lane::Necessary(node) => {
+                let y = self.settled_statement(k);
+                y.fourth == 0 && Side::Target.node(y) == node
+            }
             Lane::Outer(standpoint) => self.settled_statement(k).first == standpoint,
             Lane::Inside(standpoint) => {
                 let y = self.settled_statement(k);

@@ -66,6 +66,7 @@ pub struct Row {
     pub source: Chain,
     pub target: Chain,
     pub inner: Chain,
+    pub ending: Chain,
 }
 
 impl Row {
@@ -81,5 +82,6 @@ impl Row {
         source: Chain::EMPTY,
         target: Chain::EMPTY,
         inner: Chain::EMPTY,
+        ending: Chain::EMPTY,
     };
 }

@@ -1,11 +1,11 @@
-// Each statement reads as an edge between two nodes, a node being a standpoint with a concept or a role; the settled ones are in
-// chains by the nodes on each side.
+// The settled statements in chains, on several sides: by the numbers that a rule knows of the premises it looks for.
 ghost use Rattle.std.specs.Prelude.{◌≡◌, ◌<◌, length, slice_index_or};
 ghost use Rattle.saturation.specs.Rows.{no_row};
 ghost use Rattle.saturation.specs.Chains.{last_in};
-ghost use Rattle.saturation.specs.Sides.{source_key, target_key, inner_key, key_of, key_bucket, chain_of, side_bucket, spot_of, settled_rows};
+ghost use Rattle.saturation.specs.Buckets.{bucket_of};
+ghost use Rattle.saturation.specs.Sides.{source_of, target_of, inner_of, ending_of, node_of, chain_of, side_bucket, spot_of, turned, settled_rows};
 
-use crate::buckets::mixed;
+use crate::buckets::bucket_of;
 use crate::row::{Chain, Row};
 use crate::table::Table;
 use standpoint::Statement;
@@ -14,20 +14,17 @@ use standpoint::shape::{
     POSSIBLE_INCLUSION, SHARPER,
 };
 
-// The node on one side of the statements of a shape.
-#[derive(Clone, Copy, PartialEq, Eq)]
-pub(crate) struct Key {
-    pub shape: u8,
-    pub first: u16,
-    pub second: u16,
-}
-
-// Where a statement starts, where it ends, and what is inside: where the inclusion inside a nested one starts, an existential's role.
+// What a statement is found by. On each side its node is the statement with some of its numbers put to 0.
 #[derive(Clone, Copy)]
 pub(crate) enum Side {
+    // Where it starts.
     Source,
+    // Where it ends.
     Target,
+    // Where the inclusion inside a nested one starts, and within what; an existential's role.
     Inner,
+    // Where the inclusion inside a nested one ends, and within what; an existential's role and where it ends.
+    Ending,
 }
 
 // Where a statement goes in the chains of a side: its bucket, and the last settled one in that.
@@ -37,72 +34,116 @@ pub(crate) struct Spot {
     pub last: Option<usize>,
 }
 
-pub(crate) fn source_key(x: Statement) -> Key
-    ensures { result ≡ source_key x }
+fn source_of(x: Statement) -> Statement
+    ensures { result ≡ source_of x }
 {
-    let (first, second) = match x.shape {
-        SHARPER | INTERSECTION_SHARPER => (0, x.first),
-        EXISTENTIAL_LEFT => (x.first, x.third),
-        _ => (x.first, x.second),
-    };
-    Key {
-        shape: x.shape,
-        first,
-        second,
+    match x.shape {
+        SHARPER | INTERSECTION_SHARPER => Statement {
+            second: 0,
+            third: 0,
+            fourth: 0,
+            fifth: 0,
+            ..x
+        },
+        EXISTENTIAL_RIGHT | EXISTENTIAL_LEFT => Statement {
+            fourth: 0,
+            fifth: 0,
+            ..x
+        },
+        _ => Statement {
+            third: 0,
+            fourth: 0,
+            fifth: 0,
+            ..x
+        },
     }
 }
 
-pub(crate) fn target_key(x: Statement) -> Key
-    ensures { result ≡ target_key x }
+fn target_of(x: Statement) -> Statement
+    ensures { result ≡ target_of x }
 {
-    let (first, second) = match x.shape {
-        SHARPER | INTERSECTION_SHARPER => (0, x.second),
-        NESTED_INCLUSION => (x.third, x.fifth),
-        POSSIBLE_INCLUSION => (x.third, x.fourth),
-        EXISTENTIAL_RIGHT => (x.first, x.fourth),
-        _ => (x.first, x.third),
-    };
-    Key {
-        shape: x.shape,
-        first,
-        second,
+    match x.shape {
+        SHARPER | INTERSECTION_SHARPER => Statement {
+            first: 0,
+            third: 0,
+            fourth: 0,
+            fifth: 0,
+            ..x
+        },
+        NESTED_INCLUSION => Statement {
+            first: 0,
+            second: 0,
+            fourth: 0,
+            ..x
+        },
+        POSSIBLE_INCLUSION => Statement {
+            first: 0,
+            second: 0,
+            fifth: 0,
+            ..x
+        },
+        EXISTENTIAL_RIGHT => Statement {
+            second: 0,
+            third: 0,
+            fifth: 0,
+            ..x
+        },
+        _ => Statement {
+            second: 0,
+            fourth: 0,
+            fifth: 0,
+            ..x
+        },
     }
 }
 
-pub(crate) fn inner_key(x: Statement) -> Key
-    ensures { result ≡ inner_key x }
+fn inner_of(x: Statement) -> Statement
+    ensures { result ≡ inner_of x }
 {
-    let (first, second) = match x.shape {
-        NESTED_INCLUSION => (x.third, x.fourth),
-        _ => (x.first, x.third),
-    };
-    Key {
-        shape: x.shape,
-        first,
-        second,
+    match x.shape {
+        NESTED_INCLUSION => Statement {
+            first: 0,
+            fifth: 0,
+            ..x
+        },
+        EXISTENTIAL_RIGHT => Statement {
+            second: 0,
+            fourth: 0,
+            fifth: 0,
+            ..x
+        },
+        _ => x,
     }
 }
 
-// The bucket of a node among so many, as that of a statement.
-fn key_bucket(key: Key, buckets: usize) -> usize
-    requires { 0 < buckets }
-    ensures value { result ≡ key_bucket buckets key }
-    ensures within { result < buckets }
+fn ending_of(x: Statement) -> Statement
+    ensures { result ≡ ending_of x }
 {
-    let hash = mixed(0, u16::from(key.shape));
-    let hash = mixed(hash, key.first);
-    let hash = mixed(hash, key.second);
-    (hash >> 32) as usize % buckets
+    match x.shape {
+        NESTED_INCLUSION => Statement {
+            first: 0,
+            fourth: 0,
+            ..x
+        },
+        EXISTENTIAL_RIGHT => Statement {
+            second: 0,
+            fifth: 0,
+            ..x
+        },
+        _ => x,
+    }
 }
 
 impl Side {
-    pub(crate) fn key(self, x: Statement) -> Key
-        ensures { result ≡ key_of self x }
+    // The node of a statement.
+    pub(crate) fn node(self, x: Statement) -> Statement
+        ensures { result ≡ node_of self x }
     {
         match self {
-            Side::Source => source_key(x),
-            Side::Target => target_key(x),
-            Side::Inner => inner_key(x),
+            Side::Source => source_of(x),
+            Side::Target => target_of(x),
+            Side::Inner => inner_of(x),
+            Side::Ending => ending_of(x),
         }
     }
 }
@@ -115,12 +156,24 @@ pub(crate) fn enter_settled(
     source: Spot,
     target: Spot,
     inner: Spot,
+    ending: Spot,
 )
-    requires { (k < length rows.old) × (i < length rows.old) × (source.bucket < length rows.old) × (target.bucket < length rows.old) × (inner.bucket < length rows.old) }
-    ensures { rows.new ≡ settled_rows rows.old k i source target inner }
+    requires { (k < length rows.old) × (i < length rows.old) × (source.bucket < length rows.old) × (target.bucket < length rows.old) × (inner.bucket < length rows.old) × (ending.bucket < length rows.old) }
+    ensures { rows.new ≡ settled_rows rows.old k i source target inner ending }
 {
-    let row = rows[k];
-    rows[k] = Row {
+    rows[k] = linked(rows[k], i, source, target, inner, ending);
+    rows[i].place = Some(k);
+    rows[source.bucket].source.head = k;
+    rows[target.bucket].target.head = k;
+    rows[inner.bucket].inner.head = k;
+    rows[ending.bucket].ending.head = k;
+}
+
+// A row with what it tells of a place: which row is settled there, and what is linked from it on each side.
+fn linked(row: Row, i: usize, source: Spot, target: Spot, inner: Spot, ending: Spot) -> Row
+    ensures { result ≡ turned row i source target inner ending }
+{
+    Row {
         turn: i,
         source: Chain {
             head: row.source.head,
@@ -134,12 +187,12 @@ pub(crate) fn enter_settled(
             head: row.inner.head,
             link: inner.last,
         },
+        ending: Chain {
+            head: row.ending.head,
+            link: ending.last,
+        },
         ..row
-    };
-    rows[i].place = Some(k);
-    rows[source.bucket].source.head = k;
-    rows[target.bucket].target.head = k;
-    rows[inner.bucket].inner.head = k;
+    }
 }
 
 impl<'a, G: Copy> Table<'a, G> {
@@ -152,6 +205,7 @@ impl<'a, G: Copy> Table<'a, G> {
             Side::Source => self.rows[k].source,
             Side::Target => self.rows[k].target,
             Side::Inner => self.rows[k].inner,
+            Side::Ending => self.rows[k].ending,
         }
     }
 
@@ -160,7 +214,7 @@ impl<'a, G: Copy> Table<'a, G> {
         requires { k < self.now.settled }
         ensures { result ≡ side_bucket side self.now.rows.now k }
     {
-        key_bucket(side.key(self.settled_statement(k)), self.rows.len())
+        bucket_of(side.node(self.settled_statement(k)), self.rows.len())
     }
 
     // The last settled statement in a bucket of a side, or none. As with `last_in`, a head counts only where it names one.
@@ -177,12 +231,12 @@ impl<'a, G: Copy> Table<'a, G> {
     }
 
     // Where statements with this node on this side are found.
-    pub(crate) fn spot(&self, side: Side, key: Key) -> Spot
+    pub(crate) fn spot(&self, side: Side, node: Statement) -> Spot
         requires { 0 < length self.now.rows.now }
-        ensures value { result ≡ spot_of side self.now.rows.now self.now.settled key }
+        ensures value { result ≡ spot_of side self.now.rows.now self.now.settled node }
         ensures within { result.bucket < length self.now.rows.now }
     {
-        let bucket = key_bucket(key, self.rows.len());
+        let bucket = bucket_of(node, self.rows.len());
         Spot {
             bucket,
             last: self.last_on(side, bucket),

@@ -57,10 +57,11 @@ impl<'a, G: Copy> Table<'a, G> {
     {
         let k = self.settled;
         let statement = self.rows[i].statement;
-        let source = self.spot(Side::Source, Side::Source.key(statement));
-        let target = self.spot(Side::Target, Side::Target.key(statement));
-        let inner = self.spot(Side::Inner, Side::Inner.key(statement));
-        enter_settled(self.rows, k, i, source, target, inner);
+        let source = self.spot(Side::Source, Side::Source.node(statement));
+        let target = self.spot(Side::Target, Side::Target.node(statement));
+        let inner = self.spot(Side::Inner, Side::Inner.node(statement));
+        let ending = self.spot(Side::Ending, Side::Ending.node(statement));
+        enter_settled(self.rows, k, i, source, target, inner, ending);
         self.settled = k + 1;
     }
 }
