@@ -1,13 +1,15 @@
 -- The index of the taken rows: what keeps it, and what it finds.
-use Rattle.std.proofs.Common.{◌≡◌, ◌≢◌, ℕ, ◌+◌, ◌<◌, List, length, get_or, Some, Option, sym, refl, ap, ◌∙◌, subst, ⊎_elim, arith, length-set}
+use Rattle.std.proofs.Common.{◌≡◌, ◌≢◌, ℕ, ◌+◌, ◌*◌, ◌/◌, ◌%◌, ◌^◌, ◌<◌, ◌≤◌, List, length, get_or, Some, Option, sym, refl, ap, ◌∙◌, subst, ⊎_elim, arith, length-set}
 use lib.ListN.{set}
 use Rattle.std.proofs.lemmas.Nat.{mod_below}
+use Rattle.std.proofs.Math.Nat.{mul-le-mul_right, mod-le}
+use Rattle.saturation.specs.declared.buckets.TheConstants.{SPREAD}
 use Rattle.standpoint.specs.declared.statement.Statement.{Statement}
 use Rattle.saturation.specs.declared.row.Chain.{Chain}
 use Rattle.saturation.specs.declared.row.Row.{Row}
 use Rattle.saturation.specs.Rows.{no_row}
 use Rattle.saturation.specs.Chains.{last_in, heads_in, links_in}
-use Rattle.saturation.specs.Buckets.{bucket_of, bucket_at, Indexed, headed, entered}
+use Rattle.saturation.specs.Buckets.{triple, mixed, bucket_of, bucket_at, Indexed, headed, entered}
 use Rattle.saturation.proofs.Chaining.{Passed, On, on_last, none_past, past_link, chained_same, chained_next}
 use Rattle.saturation.proofs.Writing.{write_here, write_other, write_leaves}
 
@@ -18,8 +20,15 @@ abbrev pub index_of : Row → Chain
 index_of r = r.index
 
 pub bucket_below : (n : ℕ) (x : Statement) → 0 < n → bucket_of n x < n
-unfolding bucket_of
-bucket_below n x some = mod_below _ n some
+unfolding bucket_of mixed
+bucket_below n x some =
+    let hash = mixed (mixed 0 (triple x.first x.second x.third)) (triple x.shape x.fourth x.fifth) in
+    let half = hash / 2 ^ 32 in
+    let below : hash < 2 ^ 64 = mod_below ((mixed 0 (triple x.first x.second x.third) + triple x.shape x.fourth x.fifth) % 2 ^ 64 * SPREAD) (2 ^ 64) (omega arith) in
+    let high : half ≤ 4294967295 = omega arith in
+    let part = mul-le-mul_right n high in
+    let whole = mod-le (half * n) (2 ^ 64) in
+    omega arith
 
 -- rows with the same statements and the same chain
 module _ (rows new : List Row) (long : length new ≡ length rows) where

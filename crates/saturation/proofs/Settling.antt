@@ -16,7 +16,8 @@ use Rattle.saturation.specs.Places.{KeptRight}
 use Rattle.saturation.specs.Offering.{Apart, BestOf, Grown, RowsRight, Explained}
 use Rattle.saturation.specs.Searching.{Premise, Lists}
 use Rattle.saturation.proofs.Offers.{last_or, equal_or, not_both, in_same}
-use Rattle.saturation.proofs.Siding.{bucket_below, kept_apart, winner_apart, settled_long, settled_leaves, settled_statement, turn_old, turn_new, place_old, place_new}
+use Rattle.saturation.proofs.Indexing.{bucket_below}
+use Rattle.saturation.proofs.Siding.{kept_apart, winner_apart, settled_long, settled_leaves, settled_statement, turn_old, turn_new, place_old, place_new}
 use Rattle.saturation.proofs.Rematching.{Touched}
 use Rattle.saturation.proofs.Lists.{Fit, turn_kept}
 use Rattle.saturation.proofs.Stepping.{kept_up}

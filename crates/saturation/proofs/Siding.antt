@@ -1,6 +1,5 @@
 -- The chains of the settled statements on each side: what keeps them, and one settled more.
 use Rattle.std.proofs.Common.{◌≡◌, ◌≢◌, ℕ, ◌+◌, ◌<◌, List, length, get_or, Some, sym, refl, ap, ◌∙◌, arith, length-set}
-use Rattle.std.proofs.lemmas.Nat.{mod_below}
 use Rattle.standpoint.specs.declared.statement.Statement.{Statement}
 use Rattle.saturation.specs.declared.row.Chain.{Chain}
 use Rattle.saturation.specs.declared.row.Row.{Row}
@@ -13,10 +12,6 @@ use Rattle.saturation.specs.Sides.{node_of, chain_of, settled_at, side_bucket, S
 use Rattle.saturation.specs.Buckets.{bucket_of, headed}
 use Rattle.saturation.proofs.Chaining.{chained_same, chained_next}
 use Rattle.saturation.proofs.Writing.{write_here, write_other, write_leaves}
-
-pub bucket_below : (n : ℕ) (x : Statement) → 0 < n → bucket_of n x < n
-unfolding bucket_of
-bucket_below n x some = mod_below _ n some
 
 -- rows with the same chains
 pub same_chains : (r q : Row) → r.source ≡ q.source → r.target ≡ q.target → r.inner ≡ q.inner → r.ending ≡ q.ending → (side : Side) → chain_of side r ≡ chain_of side q

@@ -14,9 +14,9 @@ triple a b c = (a * 2 ^ 16 + b) * 2 ^ 16 + c
 unfoldable pub mixed : ℕ → ℕ → ℕ
 mixed hash number = (hash + number) % 2 ^ 64 * SPREAD % 2 ^ 64
 
--- the bucket of a statement among so many
+-- the bucket of a statement among so many: the high half as a fraction of 2^32, of their number
 unfoldable pub bucket_of : ℕ → Statement → ℕ
-bucket_of buckets x = mixed (mixed 0 (triple x.first x.second x.third)) (triple x.shape x.fourth x.fifth) / 2 ^ 32 % buckets
+bucket_of buckets x = mixed (mixed 0 (triple x.first x.second x.third)) (triple x.shape x.fourth x.fifth) / 2 ^ 32 * buckets % 2 ^ 64 / 2 ^ 32
 
 -- there are as many buckets as rows
 abbrev pub bucket_at : List Row → ℕ → ℕ

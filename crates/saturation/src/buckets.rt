@@ -24,7 +24,7 @@ fn mixed(hash: u64, number: u64) -> u64
     hash.wrapping_add(number).wrapping_mul(SPREAD)
 }
 
-// The bucket of a statement among so many, by the high bits, in which every number has a part.
+// The bucket of a statement among so many, by the high bits, in which every number has a part: a division would take longer.
 pub(crate) fn bucket_of(statement: Statement, buckets: usize) -> usize
     requires { 0 < buckets }
     ensures value { result ≡ bucket_of buckets statement }
@@ -40,7 +40,7 @@ pub(crate) fn bucket_of(statement: Statement, buckets: usize) -> usize
     } = statement;
     let hash = mixed(0, triple(first, second, third));
     let hash = mixed(hash, triple(u16::from(shape), fourth, fifth));
-    (hash >> 32) as usize % buckets
+    ((hash >> 32).wrapping_mul(buckets as u64) >> 32) as usize
 }
 
 // Writes the next row, from then on the last of its bucket.

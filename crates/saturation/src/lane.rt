@@ -64,6 +64,27 @@ fn sharpened_to(standpoint: u16) -> Lane
     ending(Statement::sharper(0, standpoint))
 }
 
+// The sharpenings from a standpoint.
+fn sharpened_from(standpoint: u16) -> Lane
+    ensures { result ≡ Along Source (statement 1 standpoint 0 0 0 0) }
+{
+    starting(Statement::sharper(standpoint, 0))
+}
+
+// The sharpenings from an intersection of which a standpoint is the first.
+fn both_from(standpoint: u16) -> Lane
+    ensures { result ≡ Along Source (statement 2 standpoint 0 0 0 0) }
+{
+    starting(Statement::intersection_sharper(standpoint, 0, 0))
+}
+
+// The sharpenings from an intersection of which a standpoint is the second.
+fn both_to(standpoint: u16) -> Lane
+    ensures { result ≡ Along Target (statement 2 0 standpoint 0 0 0) }
+{
+    ending(Statement::intersection_sharper(0, standpoint, 0))
+}
+
 // The nested inclusions that start at c of s.
 fn nested_from(s: u16, c: u16) -> Lane
     ensures { result ≡ Along Source (statement 3 s c 0 0 0) }
@@ -89,22 +110,14 @@ fn possible_to(s: u16, d: u16) -> Lane
 fn inside_from(t: u16, b: u16, s: u16, c: u16) -> Lane
     ensures { result ≡ AlongIn t Inner (statement 3 0 b s c 0) }
 {
-    Lane::AlongIn(
-        t,
-        Side::Inner,
-        Statement::nested_inclusion(0, b, s, c, 0),
-    )
+    Lane::AlongIn(t, Side::Inner, Statement::nested_inclusion(0, b, s, c, 0))
 }
 
 // The nested inclusions within b of t that end inside at d of s.
 fn inside_to(t: u16, b: u16, s: u16, d: u16) -> Lane
     ensures { result ≡ AlongIn t Ending (statement 3 0 b s 0 d) }
 {
-    Lane::AlongIn(
-        t,
-        Side::Ending,
-        Statement::nested_inclusion(0, b, s, 0, d),
-    )
+    Lane::AlongIn(t, Side::Ending, Statement::nested_inclusion(0, b, s, 0, d))
 }
 
 // The nested inclusions within top that end inside at d of s.
@@ -119,6 +132,83 @@ fn necessary_to(s: u16, d: u16) -> Lane
     ensures { result ≡ Necessary (statement 3 0 0 s 0 d) }
 {
     Lane::Necessary(Statement::nested_inclusion(0, 0, s, 0, d))
+}
+
+// The nested inclusions that end at d of s.
+fn nested_to(s: u16, d: u16) -> Lane
+    ensures { result ≡ Along Target (statement 3 0 0 s 0 d) }
+{
+    ending(Statement::nested_inclusion(0, 0, s, 0, d))
+}
+
+// The existentials of a role.
+fn existentials_of(s: u16, r: u16) -> Lane
+    ensures { result ≡ Along Inner (statement 5 s 0 r 0 0) }
+{
+    Lane::Along(Side::Inner, Statement::existential_right(s, 0, r, 0))
+}
+
+// The existentials that end at d.
+fn existentials_to(s: u16, d: u16) -> Lane
+    ensures { result ≡ Along Target (statement 5 s 0 0 d 0) }
+{
+    ending(Statement::existential_right(s, 0, 0, d))
+}
+
+// The existentials of a role that end at d.
+fn existentials_by(s: u16, r: u16, d: u16) -> Lane
+    ensures { result ≡ Along Ending (statement 5 s 0 r d 0) }
+{
+    Lane::Along(Side::Ending, Statement::existential_right(s, 0, r, d))
+}
+
+// What has this role to some c.
+fn left_from(s: u16, r: u16, c: u16) -> Lane
+    ensures { result ≡ Along Source (statement 6 s r c 0 0) }
+{
+    starting(Statement::existential_left(s, r, c, 0))
+}
+
+// The conjunctions of which c is the first part.
+fn conjunctions_from(s: u16, c: u16) -> Lane
+    ensures { result ≡ Along Source (statement 7 s c 0 0 0) }
+{
+    starting(Statement::conjunction_left(s, c, 0, 0))
+}
+
+// The conjunctions of which c is the second part.
+fn conjunctions_to(s: u16, c: u16) -> Lane
+    ensures { result ≡ Along Target (statement 7 s 0 c 0 0) }
+{
+    ending(Statement::conjunction_left(s, 0, c, 0))
+}
+
+// The roles that a role lies within.
+fn roles_from(s: u16, r: u16) -> Lane
+    ensures { result ≡ Along Source (statement 8 s r 0 0 0) }
+{
+    starting(Statement::role_inclusion(s, r, 0))
+}
+
+// The roles that lie within a role.
+fn roles_to(s: u16, r: u16) -> Lane
+    ensures { result ≡ Along Target (statement 8 s 0 r 0 0) }
+{
+    ending(Statement::role_inclusion(s, 0, r))
+}
+
+// The chains of roles of which r is the first.
+fn chains_from(s: u16, r: u16) -> Lane
+    ensures { result ≡ Along Source (statement 9 s r 0 0 0) }
+{
+    starting(Statement::role_chain(s, r, 0, 0))
+}
+
+// The chains of roles of which r is the second.
+fn chains_to(s: u16, r: u16) -> Lane
+    ensures { result ≡ Along Target (statement 9 s 0 r 0 0) }
+{
+    ending(Statement::role_chain(s, 0, r, 0))
 }
 
 // The partners of the first premise x of a rule on inclusions: the second. By a rule with one premise, itself.
@@ -147,28 +237,20 @@ fn inclusion_first(rule: Rule, newest: usize, x: Statement) -> Lane
 fn beside_first(rule: Rule, newest: usize, x: Statement) -> Lane
     ensures { result ≡ beside_first (number_of_rule rule) newest x }
 {
-    let (first, second, third, fourth, fifth) = (x.first, x.second, x.third, x.fourth, x.fifth);
     let role = x.shape == ROLE_INCLUSION;
     let sharper = x.shape == SHARPER;
     let nested = x.shape == NESTED_INCLUSION;
     let existential = x.shape == EXISTENTIAL_RIGHT;
-    let roles = Statement::role_inclusion(first, third, 0);
-    let chains = Statement::role_chain(first, third, 0, 0);
-    let left = Statement::existential_left(first, third, fourth, 0);
-    let conjunctions = Statement::conjunction_left(third, fifth, 0, 0);
     match rule {
-        Rule::RoleTransitive => when(role, starting(roles)),
-        Rule::SharperTransitive => when(sharper, starting(Statement::sharper(second, 0))),
-        Rule::SharperThanBoth => when(
-            sharper,
-            starting(Statement::intersection_sharper(second, 0, 0)),
-        ),
-        Rule::Lowered => sharpened_to(first),
-        Rule::LoweredInside => when(nested, sharpened_to(third)),
-        Rule::ExistentialWidened => when(existential, starting(roles)),
-        Rule::ExistentialChained => when(existential, starting(chains)),
-        Rule::ExistentialMet => when(existential, starting(left)),
-        Rule::ConjunctionMet => when(nested, starting(conjunctions)),
+        Rule::RoleTransitive => when(role, roles_from(x.first, x.third)),
+        Rule::SharperTransitive => when(sharper, sharpened_from(x.second)),
+        Rule::SharperThanBoth => when(sharper, both_from(x.second)),
+        Rule::Lowered => sharpened_to(x.first),
+        Rule::LoweredInside => when(nested, sharpened_to(x.third)),
+        Rule::ExistentialWidened => when(existential, roles_from(x.first, x.third)),
+        Rule::ExistentialChained => when(existential, chains_from(x.first, x.third)),
+        Rule::ExistentialMet => when(existential, left_from(x.first, x.third, x.fourth)),
+        Rule::ConjunctionMet => when(nested, conjunctions_from(x.third, x.fifth)),
         _ => inclusion_first(rule, newest, x),
     }
 }
@@ -198,26 +280,24 @@ fn inclusion_second(rule: Rule, x: Statement) -> Lane
 fn beside_second(rule: Rule, x: Statement) -> Lane
     ensures { result ≡ beside_second (number_of_rule rule) x }
 {
-    let (first, second, third, fourth, fifth) = (x.first, x.second, x.third, x.fourth, x.fifth);
+    let role = x.shape == ROLE_INCLUSION;
     let sharper = x.shape == SHARPER;
     let nested = x.shape == NESTED_INCLUSION;
+    let existential = x.shape == EXISTENTIAL_RIGHT;
     let left = x.shape == EXISTENTIAL_LEFT;
-    let roles = Statement::role_inclusion(first, 0, second);
-    let both = Statement::intersection_sharper(0, second, 0);
-    let widened = Statement::existential_right(third, 0, 0, fourth);
-    let chains = Statement::role_chain(first, 0, third, 0);
-    let met = Statement::existential_right(first, 0, second, third);
-    let conjunctions = Statement::conjunction_left(third, 0, fifth, 0);
     match rule {
-        Rule::RoleTransitive => when(x.shape == ROLE_INCLUSION, ending(roles)),
-        Rule::SharperTransitive => when(sharper, sharpened_to(first)),
-        Rule::SharperThanBoth => when(sharper, ending(both)),
-        Rule::Lowered => when(sharper, Lane::Outer(second)),
-        Rule::LoweredInside => when(sharper, Lane::Inside(second)),
-        Rule::ExistentialWidened => when(nested && second == 0, ending(widened)),
-        Rule::ExistentialChained => when(x.shape == EXISTENTIAL_RIGHT, ending(chains)),
-        Rule::ExistentialMet => when(left, Lane::Along(Side::Ending, met)),
-        Rule::ConjunctionMet => when(nested, ending(conjunctions)),
+        Rule::RoleTransitive => when(role, roles_to(x.first, x.second)),
+        Rule::SharperTransitive => when(sharper, sharpened_to(x.first)),
+        Rule::SharperThanBoth => when(sharper, both_to(x.second)),
+        Rule::Lowered => when(sharper, Lane::Outer(x.second)),
+        Rule::LoweredInside => when(sharper, Lane::Inside(x.second)),
+        Rule::ExistentialWidened => when(
+            nested && x.second == 0,
+            existentials_to(x.third, x.fourth),
+        ),
+        Rule::ExistentialChained => when(existential, chains_to(x.first, x.third)),
+        Rule::ExistentialMet => when(left, existentials_by(x.first, x.second, x.third)),
+        Rule::ConjunctionMet => when(nested, conjunctions_to(x.third, x.fifth)),
         _ => inclusion_second(rule, x),
     }
 }
@@ -227,15 +307,14 @@ fn beside_third(rule: Rule, x: Statement) -> Lane
     ensures { result ≡ beside_third (number_of_rule rule) x }
 {
     let both = x.shape == INTERSECTION_SHARPER;
+    let role = x.shape == ROLE_INCLUSION;
+    let chain = x.shape == ROLE_CHAIN;
     let conjunction = x.shape == CONJUNCTION_LEFT;
-    let existentials = Statement::existential_right(x.first, 0, x.second, 0);
-    let with_role = Lane::Along(Side::Inner, existentials);
-    let inclusions = Statement::nested_inclusion(0, 0, x.first, 0, x.second);
     match rule {
         Rule::SharperThanBoth => when(both, sharpened_to(x.first)),
-        Rule::ExistentialWidened => when(x.shape == ROLE_INCLUSION, with_role),
-        Rule::ExistentialChained => when(x.shape == ROLE_CHAIN, with_role),
-        Rule::ConjunctionMet => when(conjunction, ending(inclusions)),
+        Rule::ExistentialWidened => when(role, existentials_of(x.first, x.second)),
+        Rule::ExistentialChained => when(chain, existentials_of(x.first, x.second)),
+        Rule::ConjunctionMet => when(conjunction, nested_to(x.first, x.second)),
         _ => Lane::Nowhere,
     }
 }
@@ -295,15 +374,12 @@ pub(crate) fn last_lane(rule: Rule, position: Position, x: Statement, y: Stateme
         (Rule::SharperThanBoth, Position::Second) => sharpening(x.first, y.first),
         (Rule::SharperThanBoth, Position::Third) => sharpening(y.first, x.second),
         (Rule::ExistentialWidened, Position::First) => widening(x),
-        (Rule::ExistentialWidened, Position::Second) => {
-            starting(Statement::role_inclusion(y.first, y.third, 0))
-        }
+        (Rule::ExistentialWidened, Position::Second) => roles_from(y.first, y.third),
         (Rule::ExistentialWidened, Position::Third) => widening(y),
         (Rule::ExistentialChained, Position::First) => next_existential(x, y.third),
-        (Rule::ExistentialChained, Position::Second) => Lane::Along(
-            Side::Ending,
-            Statement::existential_right(x.first, 0, y.second, x.second),
-        ),
+        (Rule::ExistentialChained, Position::Second) => {
+            existentials_by(x.first, y.second, x.second)
+        }
         (Rule::ExistentialChained, Position::Third) => next_existential(y, x.third),
         (Rule::ConjunctionMet, Position::First) => inclusion_to(x, y.third),
         (Rule::ConjunctionMet, Position::Second) => inclusion_to(x, y.second),
@@ -335,7 +411,9 @@ impl<'a, G: Copy> Table<'a, G> {
     {
         match lane {
             Lane::Nowhere | Lane::Alone(_) => None,
-            Lane::Along(side, _) | Lane::AlongIn(_, side, _) | Lane::Only(side, _) => self.chain(side, k).link,
+            Lane::Along(side, _) | Lane::AlongIn(_, side, _) | Lane::Only(side, _) => self
+                .chain(side, k)
+                .link,
             Lane::Necessary(_) => self.chain(Side::Target, k).link,
             Lane::Outer(_) | Lane::Inside(_) => k.checked_sub(1),
         }
