@@ -7,7 +7,7 @@ ghost use Rattle.saturation.specs.declared.side.Side.TheVariants.{Source, Target
 ghost use Rattle.standpoint.specs.Statements.{statement};
 ghost use Rattle.saturation.specs.Chains.{last_in};
 ghost use Rattle.saturation.specs.Sides.{settled_at};
-ghost use Rattle.saturation.specs.Lanes.{when, inclusion_first, beside_first, inclusion_second, beside_second, beside_third, partners, last_lane, Within, track, lane_bucket};
+ghost use Rattle.saturation.specs.Lanes.{when, first_shape, second_shape, third_shape, takes, beside, inclusion_first, beside_first, inclusion_second, beside_second, beside_third, partners, last_lane, Within, track, lane_bucket};
 
 use crate::places::Position;
 use crate::side::Side;
@@ -17,6 +17,9 @@ use standpoint::shape::{
     POSSIBLE_INCLUSION, ROLE_CHAIN, ROLE_INCLUSION, SHARPER,
 };
 use standpoint::{Rule, Statement};
+
+// No statement that fits has it.
+const NO_SHAPE: u8 = 0;
 
 #[derive(Clone, Copy)]
 pub(crate) enum Lane {
@@ -104,6 +107,13 @@ fn possible_to(s: u16, d: u16) -> Lane
     ensures { result ≡ Along Target (statement 4 0 0 s d 0) }
 {
     ending(Statement::possible_inclusion(0, 0, s, d))
+}
+
+// This possible inclusion alone.
+fn possible(t: u16, c: u16, s: u16, d: u16) -> Lane
+    ensures { result ≡ Only Ending (statement 4 t c s d 0) }
+{
+    Lane::Only(Side::Ending, Statement::possible_inclusion(t, c, s, d))
 }
 
 // The nested inclusions within b of t that start inside at c of s.
@@ -211,24 +221,98 @@ fn chains_to(s: u16, r: u16) -> Lane
     ending(Statement::role_chain(s, 0, r, 0))
 }
 
+// The shape of a rule's first premise, where it is not any.
+fn first_shape(rule: Rule) -> u8
+    ensures { result ≡ first_shape (number_of_rule rule) }
+{
+    match rule {
+        Rule::SharperTransitive | Rule::SharperThanBoth => SHARPER,
+        Rule::LoweredInside
+        | Rule::InsideTransitive
+        | Rule::SubsumedNested
+        | Rule::SubsumedPossible
+        | Rule::NecessaryThenNested
+        | Rule::NecessaryThenPossible
+        | Rule::ConjunctionMet
+        | Rule::NecessaryHere
+        | Rule::OfAllThings
+        | Rule::NecessaryEmpty
+        | Rule::IndividualEmpty => NESTED_INCLUSION,
+        Rule::PossibleWidened
+        | Rule::PossibleThenNested
+        | Rule::PossibleThenPossible
+        | Rule::PossibleEmpty => POSSIBLE_INCLUSION,
+        Rule::ExistentialWidened
+        | Rule::ExistentialChained
+        | Rule::ExistentialMet
+        | Rule::ExistentialEmpty => EXISTENTIAL_RIGHT,
+        Rule::RoleTransitive => ROLE_INCLUSION,
+        Rule::Lowered => NO_SHAPE,
+    }
+}
+
+// That of its second.
+fn second_shape(rule: Rule) -> u8
+    ensures { result ≡ second_shape (number_of_rule rule) }
+{
+    match rule {
+        Rule::SharperTransitive | Rule::SharperThanBoth | Rule::Lowered | Rule::LoweredInside =>
+            SHARPER,
+        Rule::InsideTransitive
+        | Rule::SubsumedNested
+        | Rule::PossibleWidened
+        | Rule::NecessaryThenNested
+        | Rule::PossibleThenNested
+        | Rule::ExistentialWidened
+        | Rule::ConjunctionMet => NESTED_INCLUSION,
+        Rule::SubsumedPossible | Rule::NecessaryThenPossible | Rule::PossibleThenPossible => {
+            POSSIBLE_INCLUSION
+        }
+        Rule::ExistentialChained => EXISTENTIAL_RIGHT,
+        Rule::ExistentialMet => EXISTENTIAL_LEFT,
+        Rule::RoleTransitive => ROLE_INCLUSION,
+        _ => NO_SHAPE,
+    }
+}
+
+// That of its third.
+fn third_shape(rule: Rule) -> u8
+    ensures { result ≡ third_shape (number_of_rule rule) }
+{
+    match rule {
+        Rule::SharperThanBoth => INTERSECTION_SHARPER,
+        Rule::ExistentialWidened => ROLE_INCLUSION,
+        Rule::ExistentialChained => ROLE_CHAIN,
+        Rule::ConjunctionMet => CONJUNCTION_LEFT,
+        _ => NO_SHAPE,
+    }
+}
+
+// Whether a rule's premise at a position may have this shape.
+fn takes(rule: Rule, position: Position, shape: u8) -> bool
+    ensures { result ≡ takes (number_of_rule rule) position shape }
+{
+    match position {
+        Position::First => rule == Rule::Lowered || first_shape(rule) == shape,
+        Position::Second => second_shape(rule) == shape,
+        Position::Third => third_shape(rule) == shape,
+    }
+}
+
 // The partners of the first premise x of a rule on inclusions: the second. By a rule with one premise, itself.
 fn inclusion_first(rule: Rule, newest: usize, x: Statement) -> Lane
     ensures { result ≡ inclusion_first (number_of_rule rule) newest x }
 {
     let (t, b, s, c, d) = (x.first, x.second, x.third, x.fourth, x.fifth);
-    let nested = x.shape == NESTED_INCLUSION;
-    let subsumed = nested && b == 0;
-    let necessary = nested && c == 0;
-    let possible = x.shape == POSSIBLE_INCLUSION;
     match rule {
-        Rule::InsideTransitive => when(nested, inside_from(t, b, s, d)),
-        Rule::SubsumedNested => when(subsumed, nested_from(s, d)),
-        Rule::SubsumedPossible => when(subsumed, possible_from(s, d)),
-        Rule::PossibleWidened => when(possible, inside_from(t, b, s, c)),
-        Rule::NecessaryThenNested => when(necessary, nested_from(s, d)),
-        Rule::NecessaryThenPossible => when(necessary, possible_from(s, d)),
-        Rule::PossibleThenNested => when(possible, nested_from(s, c)),
-        Rule::PossibleThenPossible => when(possible, possible_from(s, c)),
+        Rule::InsideTransitive => inside_from(t, b, s, d),
+        Rule::SubsumedNested => when(b == 0, nested_from(s, d)),
+        Rule::SubsumedPossible => when(b == 0, possible_from(s, d)),
+        Rule::PossibleWidened => inside_from(t, b, s, c),
+        Rule::NecessaryThenNested => when(c == 0, nested_from(s, d)),
+        Rule::NecessaryThenPossible => when(c == 0, possible_from(s, d)),
+        Rule::PossibleThenNested => nested_from(s, c),
+        Rule::PossibleThenPossible => possible_from(s, c),
         _ => Lane::Alone(newest),
     }
 }
@@ -237,20 +321,16 @@ fn inclusion_first(rule: Rule, newest: usize, x: Statement) -> Lane
 fn beside_first(rule: Rule, newest: usize, x: Statement) -> Lane
     ensures { result ≡ beside_first (number_of_rule rule) newest x }
 {
-    let role = x.shape == ROLE_INCLUSION;
-    let sharper = x.shape == SHARPER;
-    let nested = x.shape == NESTED_INCLUSION;
-    let existential = x.shape == EXISTENTIAL_RIGHT;
     match rule {
-        Rule::RoleTransitive => when(role, roles_from(x.first, x.third)),
-        Rule::SharperTransitive => when(sharper, sharpened_from(x.second)),
-        Rule::SharperThanBoth => when(sharper, both_from(x.second)),
+        Rule::RoleTransitive => roles_from(x.first, x.third),
+        Rule::SharperTransitive => sharpened_from(x.second),
+        Rule::SharperThanBoth => both_from(x.second),
         Rule::Lowered => sharpened_to(x.first),
-        Rule::LoweredInside => when(nested, sharpened_to(x.third)),
-        Rule::ExistentialWidened => when(existential, roles_from(x.first, x.third)),
-        Rule::ExistentialChained => when(existential, chains_from(x.first, x.third)),
-        Rule::ExistentialMet => when(existential, left_from(x.first, x.third, x.fourth)),
-        Rule::ConjunctionMet => when(nested, conjunctions_from(x.third, x.fifth)),
+        Rule::LoweredInside => sharpened_to(x.third),
+        Rule::ExistentialWidened => roles_from(x.first, x.third),
+        Rule::ExistentialChained => chains_from(x.first, x.third),
+        Rule::ExistentialMet => left_from(x.first, x.third, x.fourth),
+        Rule::ConjunctionMet => conjunctions_from(x.third, x.fifth),
         _ => inclusion_first(rule, newest, x),
     }
 }
@@ -260,18 +340,15 @@ fn inclusion_second(rule: Rule, x: Statement) -> Lane
     ensures { result ≡ inclusion_second (number_of_rule rule) x }
 {
     let (t, b, s, c) = (x.first, x.second, x.third, x.fourth);
-    let nested = x.shape == NESTED_INCLUSION;
-    let possible = x.shape == POSSIBLE_INCLUSION;
-    let somewhere = Statement::possible_inclusion(t, b, s, c);
     match rule {
-        Rule::InsideTransitive => when(nested, inside_to(t, b, s, c)),
-        Rule::SubsumedNested => when(nested, subsumed_to(t, b)),
-        Rule::SubsumedPossible => when(possible, subsumed_to(t, b)),
-        Rule::PossibleWidened => when(nested, Lane::Only(Side::Ending, somewhere)),
-        Rule::NecessaryThenNested => when(nested, necessary_to(t, b)),
-        Rule::NecessaryThenPossible => when(possible, necessary_to(t, b)),
-        Rule::PossibleThenNested => when(nested, possible_to(t, b)),
-        Rule::PossibleThenPossible => when(possible, possible_to(t, b)),
+        Rule::InsideTransitive => inside_to(t, b, s, c),
+        Rule::SubsumedNested => subsumed_to(t, b),
+        Rule::SubsumedPossible => subsumed_to(t, b),
+        Rule::PossibleWidened => possible(t, b, s, c),
+        Rule::NecessaryThenNested => necessary_to(t, b),
+        Rule::NecessaryThenPossible => necessary_to(t, b),
+        Rule::PossibleThenNested => possible_to(t, b),
+        Rule::PossibleThenPossible => possible_to(t, b),
         _ => Lane::Nowhere,
     }
 }
@@ -280,24 +357,16 @@ fn inclusion_second(rule: Rule, x: Statement) -> Lane
 fn beside_second(rule: Rule, x: Statement) -> Lane
     ensures { result ≡ beside_second (number_of_rule rule) x }
 {
-    let role = x.shape == ROLE_INCLUSION;
-    let sharper = x.shape == SHARPER;
-    let nested = x.shape == NESTED_INCLUSION;
-    let existential = x.shape == EXISTENTIAL_RIGHT;
-    let left = x.shape == EXISTENTIAL_LEFT;
     match rule {
-        Rule::RoleTransitive => when(role, roles_to(x.first, x.second)),
-        Rule::SharperTransitive => when(sharper, sharpened_to(x.first)),
-        Rule::SharperThanBoth => when(sharper, both_to(x.second)),
-        Rule::Lowered => when(sharper, Lane::Outer(x.second)),
-        Rule::LoweredInside => when(sharper, Lane::Inside(x.second)),
-        Rule::ExistentialWidened => when(
-            nested && x.second == 0,
-            existentials_to(x.third, x.fourth),
-        ),
-        Rule::ExistentialChained => when(existential, chains_to(x.first, x.third)),
-        Rule::ExistentialMet => when(left, existentials_by(x.first, x.second, x.third)),
-        Rule::ConjunctionMet => when(nested, conjunctions_to(x.third, x.fifth)),
+        Rule::RoleTransitive => roles_to(x.first, x.second),
+        Rule::SharperTransitive => sharpened_to(x.first),
+        Rule::SharperThanBoth => both_to(x.second),
+        Rule::Lowered => Lane::Outer(x.second),
+        Rule::LoweredInside => Lane::Inside(x.second),
+        Rule::ExistentialWidened => when(x.second == 0, existentials_to(x.third, x.fourth)),
+        Rule::ExistentialChained => chains_to(x.first, x.third),
+        Rule::ExistentialMet => existentials_by(x.first, x.second, x.third),
+        Rule::ConjunctionMet => conjunctions_to(x.third, x.fifth),
         _ => inclusion_second(rule, x),
     }
 }
@@ -306,28 +375,34 @@ fn beside_second(rule: Rule, x: Statement) -> Lane
 fn beside_third(rule: Rule, x: Statement) -> Lane
     ensures { result ≡ beside_third (number_of_rule rule) x }
 {
-    let both = x.shape == INTERSECTION_SHARPER;
-    let role = x.shape == ROLE_INCLUSION;
-    let chain = x.shape == ROLE_CHAIN;
-    let conjunction = x.shape == CONJUNCTION_LEFT;
     match rule {
-        Rule::SharperThanBoth => when(both, sharpened_to(x.first)),
-        Rule::ExistentialWidened => when(role, existentials_of(x.first, x.second)),
-        Rule::ExistentialChained => when(chain, existentials_of(x.first, x.second)),
-        Rule::ConjunctionMet => when(conjunction, nested_to(x.first, x.second)),
+        Rule::SharperThanBoth => sharpened_to(x.first),
+        Rule::ExistentialWidened => existentials_of(x.first, x.second),
+        Rule::ExistentialChained => existentials_of(x.first, x.second),
+        Rule::ConjunctionMet => nested_to(x.first, x.second),
         _ => Lane::Nowhere,
     }
 }
 
-// Where the partners of the newest premise x are: of the two others of three, that which is taken first. By a rule with one, the
-// newest is its own.
-pub(crate) fn partners(rule: Rule, position: Position, newest: usize, x: Statement) -> Lane
-    ensures { result ≡ partners (number_of_rule rule) position newest x }
+fn beside(rule: Rule, position: Position, newest: usize, x: Statement) -> Lane
+    ensures { result ≡ beside (number_of_rule rule) position newest x }
 {
     match position {
         Position::First => beside_first(rule, newest, x),
         Position::Second => beside_second(rule, x),
         Position::Third => beside_third(rule, x),
+    }
+}
+
+// Where the partners of the newest premise x are: of the two others of three, that which is taken first. By a rule with one, the
+// newest is its own. Most rules take no premise of its shape there, and that is told first.
+pub(crate) fn partners(rule: Rule, position: Position, newest: usize, x: Statement) -> Lane
+    ensures { result ≡ partners (number_of_rule rule) position newest x }
+{
+    if takes(rule, position, x.shape) {
+        beside(rule, position, newest, x)
+    } else {
+        Lane::Nowhere
     }
 }
 
