@@ -54,14 +54,6 @@ module _ {G : Type 0} where
         only = λ j m. ⊎_elim (λ i. inr (omega arith)) (λ ne. inl (sym (mark_there s k true h fit j ne) ∙ m)) (equal_or j k);
       })
 
-  adds_then : (s t u : State G) (A B : ℕ → Type 0) → AddsMarks s t A → AddsMarks t u B → AddsMarks s u (λ j. A j ⊎ B j)
-  adds_then s t u A B a b = record {
-    but_marks = but_marks_trans s t u a.but_marks b.but_marks;
-    old = λ j m. b.old j (a.old j m);
-    new = λ j. ⊎_elim (λ x. b.old j (a.new j x)) (λ y. b.new j y);
-    only = λ j m. ⊎_elim (λ x. ⊎_elim (λ y. inl y) (λ y. inr (inl y)) (a.only j x)) (λ y. inr (inr y)) (b.only j m);
-  }
-
   -- the loop
   marks_start : (s u : State G) (t : ℕ) → t < s.settled → s.settled ≤ length s.rows → Clean s → u ≡ with_mark s t true → MarksDown s u t 0
   marks_start s u t h fit clean e =

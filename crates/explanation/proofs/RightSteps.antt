@@ -3,7 +3,7 @@ use Rattle.std.proofs.Common.{◌≡◌, ℕ, ◌+◌, ◌-◌, ◌<◌, ◌≤�
 use Rattle.std.proofs.lemmas.List.{get_or_default, get_or-take, length-take-le}
 use Rattle.standpoint.specs.declared.statement.Statement.{Statement}
 use Rattle.standpoint.specs.declared.step.Step.{Step}
-use Rattle.standpoint.specs.Lists.{In, StandsAt}
+use Rattle.standpoint.specs.Lists.{StandsAt}
 use Rattle.standpoint.specs.Sizes.{InRange}
 use Rattle.standpoint.specs.Algebra.{Algebra}
 use Rattle.standpoint.specs.Rules.{Rule}
@@ -12,7 +12,6 @@ use Rattle.standpoint.specs.Steps.{given, Earlier, Agrees, by_acceptance, by_tau
 use Rattle.standpoint.specs.Verdicts.{Passes}
 use Rattle.standpoint.proofs.Arities.{few_premises}
 use Rattle.standpoint.proofs.Derived.{derived_fits}
-use Rattle.standpoint.proofs.Lists.{in_getD}
 use Rattle.runs.specs.Runs.{Settled, Run}
 use Rattle.runs.proofs.Offers.{settled_derives}
 use Rattle.saturation.specs.declared.row.Kept.{Kept}
@@ -21,11 +20,9 @@ use Rattle.saturation.specs.Places.{StandAt, statements_of, grades_of, joined, k
 use Rattle.saturation.specs.Offering.{Explained}
 use Rattle.saturation.specs.Searching.{Lists}
 use Rattle.saturation.proofs.Lists.{premise_at, stands_same}
+use Rattle.saturation.proofs.Stepping.{stands_in}
 use Rattle.explanation.specs.Needed.{kept_at, Rests, Needed, itself, below, Founded, rank, Chooses, Renumbers, Written}
 use Rattle.explanation.proofs.Ranks.{rank_taken, rank_below, unrank}
-
-pub stands_in : {X : Type 0} (xs : List X) (k : ℕ) (x : X) → StandsAt xs k x → In xs x
-stands_in xs k x at = subst (In xs) (at.1 x) (in_getD xs k x at.0)
 
 -- the front of a list of right steps
 module _ {G : Type 0} (a : Algebra G) (base : Base G) (xs : List (Step G)) (count : ℕ) (room : count ≤ length xs) where

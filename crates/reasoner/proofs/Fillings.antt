@@ -1,7 +1,8 @@
 -- Taking the tautologies one by one.
-use Rattle.std.proofs.Common.{◌≡◌, ℕ, suc, ◌+◌, ◌<◌, ◌≤◌, Bool, true, false, List, [], ◌∷◌, length, Some, None, sym, refl, ap, ◌∙◌, subst, inl, inr, ⊎_elim, arith}
+use Rattle.std.proofs.Common.{◌≡◌, ℕ, ◌+◌, ◌<◌, ◌≤◌, Bool, true, false, List, [], ◌∷◌, length, Some, None, sym, refl, ap, ◌∙◌, subst, inl, inr, ⊎_elim, arith}
 use Rattle.std.specs.List.{slice_get}
 use Rattle.std.proofs.lemmas.Bool.Decides.{nat_tests}
+use Rattle.std.proofs.lemmas.Option.{slice_get_within}
 use Rattle.standpoint.specs.declared.sizes.Sizes.{Sizes}
 use Rattle.standpoint.specs.declared.statement.Statement.{Statement}
 use Rattle.standpoint.specs.Lists.{In}
@@ -14,7 +15,7 @@ use Rattle.standpoint.proofs.TautologyList.{tautologies_listed}
 use Rattle.runs.specs.Runs.{Offers}
 use Rattle.runs.specs.Runs.Run.{fresh}
 use Rattle.runs.specs.Runs.Offers.{leaf, one, two, three}
-use Rattle.runs.proofs.Distinct.{in_nth}
+use Rattle.runs.proofs.Distinct.{in_nth, nth_in}
 use Rattle.saturation.specs.declared.row.Row.{Row}
 use Rattle.saturation.specs.Rows.{kept}
 use Rattle.saturation.specs.Tables.{State, OpenAt, statement_at, capacity, has_room}
@@ -42,14 +43,6 @@ one_row al s t x g r taken apart =
 -- rows that are not settled stay so under an offer
 pub still_open : {G : Type 0} (s t : State G) → Grown s t → ((i : ℕ) → i < s.len → OpenAt s i) → (i : ℕ) → i < t.len → OpenAt t i
 still_open s t g opened i h = ⊎_elim (λ lt. g.places i lt ∙ opened i lt) (λ ge. g.fresh i ge h) (below_or i s.len)
-
-nth_in : {X : Type 0} (xs : List X) (x : X) → In xs x → (j : ℕ) × (j < length xs) × (slice_get xs j ≡ Some x)
-nth_in [] x m = absurd m
-nth_in (y ∷ ys) x m =
-    ⊎_elim
-    (λ e. (0, omega arith, ap Some e))
-    (λ r. let p = nth_in ys x r in let h = p.1 in (suc p.0, omega arith, p.2))
-    m
 
 module _ {G : Type 0} (al : Algebra G) (n : Sizes) (s : State G) (k : ℕ) (f : Filled al n s k) where
   pub filled_more : (t : State G) (x : Statement) (r : Bool) → slice_get (tautologies n) k ≡ Some x → k < capacity s →
@@ -140,8 +133,8 @@ filled_holds {G} al n s k f all = record {
     known x g (leaf (accepted m fits)) = absurd m
     known x _ (leaf (tautology t)) =
         let p = nth_in (tautologies n) x ((tautologies_listed n _ refl).complete x t) in
-        let h = p.1 in
-        f.complete p.0 x (omega arith) p.2
+        let within = slice_get_within (tautologies n) p.0 x p.1 in
+        f.complete p.0 x (omega arith) p.1
     known x g (one r m) = absurd m
     known x _ (two r m o) = absurd m
     known x _ (three r m o q) = absurd m

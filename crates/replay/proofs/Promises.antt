@@ -31,7 +31,7 @@ use Rattle.replay.specs.declared.call.Done.{Done}
 use Rattle.replay.specs.declared.call.Done.TheVariants.{Said, Explained}
 use Rattle.replay.specs.Pasts.{Outcome, Past, steps_of, call_at, outcome_at, before, written}
 use Rattle.replay.specs.Performing.{as_outcome, ExplainsWithin, Performs, Performed, none, one_more}
-use Rattle.replay.specs.Replays.{base_at, Told, GradesAreBest, ContradictionExcludes, RunAt, NothingIsExact, written_at, ExplanationsPass, GradesAreExplained}
+use Rattle.replay.specs.Replays.{base_at, Told, GradesAreBest, GradedContradictionExcludes, RunAt, NothingIsExact, written_at, ExplanationsPass, GradesAreExplained}
 use Rattle.replay.proofs.Histories.{Tied, not_yet, begun, settled_in, goes_on}
 use Rattle.replay.proofs.Places.{Place, place, rows_kept, tied_at, begins_up}
 
@@ -62,8 +62,8 @@ pub record Spoke {G : Type 0} (a : Algebra G) (p : Past G) (rows : ℕ) (x : Sta
 module _ {G : Type 0} (a : Algebra G) (laws : Laws a) where
   module _ {p : Past G} {s : Table G} (x : Statement) (said : Answer G) (asked : Asked s x (Ok said)) where
     pub spoke : (tied : Tied a p s) → Spoke a p (capacity (view s)) x said (settled_in tied)
-    spoke (not_yet nothing asleep) = absurd (both_ways _ asleep asked.0)
-    spoke (begun l some holding count) = record { says = asked.2 a laws p.base l holding; run = (held holding).run; count = count }
+    spoke (not_yet nothing asleep) = absurd (both_ways _ asleep asked.0.begun)
+    spoke (begun l some holding count) = record { says = asked.1 a laws p.base l holding; run = (held holding).run; count = count }
 
   -- what was said at a place where it was asked for x
   pub told : {p : Past G} {s : Table G} (t : Table G) (tied : Tied a p s) (x : Statement) (said : Answer G) (call : Call G) (o : Outcome G) (room left : List (Step G)) →
@@ -124,8 +124,8 @@ module _ {G : Type 0} (a : Algebra G) (laws : Laws a) where
       pub grades_are_best : GradesAreBest a calls os n
       grades_are_best i x g at = (spoke_at i x (Graded g) at).1.says.1
 
-      pub contradiction_excludes : ContradictionExcludes a calls os n
-      contradiction_excludes i g at = (spoke_at i _ (Graded g) at).1.says.2 refl
+      pub graded_contradiction_excludes : GradedContradictionExcludes a calls os n
+      graded_contradiction_excludes i g at = (spoke_at i _ (Graded g) at).1.says.2 refl
 
       pub nothing_is_exact : NothingIsExact a calls os n (capacity (view first))
       nothing_is_exact i x said at =
@@ -175,7 +175,7 @@ module _ {G : Type 0} (a : Algebra G) (laws : Laws a) where
       pub explanations_pass : ExplanationsPass a calls os n end
       explanations_pass j x most count below is_call is_o =
           let e = explanation_at j x most count (place a calls os first steps all j below) is_call is_o in
-          (e.grade, e.passes, (e.derived, e.best))
+          (e.grade, e.passes, e.best)
 
       pub grades_are_explained : GradesAreExplained a calls os n end
       grades_are_explained i j x g most (i-below, is-asked, is_said) before-j below same is_call =

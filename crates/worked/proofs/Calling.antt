@@ -30,7 +30,7 @@ use Rattle.reasoner.specs.Models.{based, empty_base, accepting, StandsFor, Holdi
 use Rattle.reasoner.specs.Calls.{AddRefused, before_begin, after_settle, misfit, individual, no_row, AllRowsTaken, after}
 use Rattle.reasoner.specs.Asking as asking
 use Rattle.reasoner.specs.Asking.{AskRefused, Says}
-use Rattle.reasoner.proofs.Holding.{held}
+use Rattle.reasoner.proofs.Holding.{held, refused_misfit}
 use Rattle.replay.specs.declared.call.Call.TheVariants.{Begin, Add, Settle, Ask}
 use Rattle.replay.specs.declared.call.Done.TheVariants.{Began, Added, Settled, Said}
 use Rattle.replay.specs.Pasts.{Outcome}
@@ -73,10 +73,6 @@ module _ {G : Type 0} (a : Algebra G) where
   only_begun s x _ asleep (asking.before_begin f) = refl
   only_begun s x _ asleep (asking.misfit f unfit) = absurd (both_ways _ asleep f)
 
-  ask_refused_not : (s : Table G) (b : Base G) (l : runs.Settled G) → Holding a b s l → (x : Statement) → Fits b.sizes x → (e : Refusal) → AskRefused s x e → ⊥
-  ask_refused_not s b l holding x fits _ (asking.before_begin f) = both_ways _ f (held holding).begun
-  ask_refused_not s b l holding x fits _ (asking.misfit f unfit) = unfit (subst (λ (n : Sizes). Fits n x) (sym (held holding).sizes) fits)
-
   module _ (s t : Table G) (o : Outcome G) (old new : List (Step G)) where
     pub begun : (n : Sizes) → InRange n → length (tautologies n) ≤ capacity (view s) → Performs a (Begin n) o s t old new →
         (o ≡ Ok Began) × StandsFor a (based (empty_base n)) t
@@ -112,11 +108,11 @@ module _ {G : Type 0} (a : Algebra G) where
     settle_refused n asleep (same, (Err e, is, made)) = (is ∙ ap (λ (r : Refusal). Err r) made.1, made.0.1)
 
     pub ask_refused : (x : Statement) → is_begun s.phase ≡ false → Performs a (Ask x) o s t old new → o ≡ Err NotBegun
-    ask_refused x asleep (same, unchanged, (Ok said, is, told)) = absurd (both_ways _ asleep told.0)
+    ask_refused x asleep (same, unchanged, (Ok said, is, told)) = absurd (both_ways _ asleep told.0.begun)
     ask_refused x asleep (same, unchanged, (Err e, is, refused)) = is ∙ ap (λ (r : Refusal). Err r) (only_begun s x e asleep refused)
 
     -- only one answer says what holds
     pub asked : Laws a → (b : Base G) (l : runs.Settled G) → Holding a b s l → (x : Statement) → Fits b.sizes x → (said : Answer G) →
         ((other : Answer G) → Says a b l (capacity (view s)) x other → other ≡ said) → Performs a (Ask x) o s t old new → o ≡ Ok (Said said)
-    asked laws b l holding x fits said only (same, unchanged, (Ok other, is, told)) = is ∙ ap (λ (r : Answer G). Ok (Said r)) (only other (told.2 a laws b l holding))
-    asked laws b l holding x fits said only (same, unchanged, (Err e, is, refused)) = absurd (ask_refused_not s b l holding x fits e refused)
+    asked laws b l holding x fits said only (same, unchanged, (Ok other, is, told)) = is ∙ ap (λ (r : Answer G). Ok (Said r)) (only other (told.1 a laws b l holding))
+    asked laws b l holding x fits said only (same, unchanged, (Err e, is, refused)) = absurd ((refused_misfit (held holding) x refused).1 fits)
