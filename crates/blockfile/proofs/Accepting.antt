@@ -13,7 +13,7 @@ use Rattle.blockfile.specs.declared.fault.RecordFault.{RecordFault}
 use Rattle.blockfile.specs.declared.fault.RecordFault.TheVariants.{Add}
 use Rattle.blockfile.specs.Codes.{or_no_grade}
 use Rattle.blockfile.specs.Layout.{block_of, count_in, code_of, statement_in, sizes_in, SoundBlock}
-use Rattle.blockfile.specs.Loads.{accepting_on, accepting_all, Reads, reads_record, reads_block, AcceptsBefore, RecordLoaded}
+use Rattle.blockfile.specs.Loads.{accepting_on, Reads, reads_record, reads_block, AcceptsBefore, RecordLoaded}
 
 pub over_then : {G : Type 0} (s t u : Table G) → OverSame s t → OverSame t u → OverSame s u
 over_then s t u x y = (y.0 ∙ x.0, y.1 ∙ x.1)
@@ -45,9 +45,6 @@ module _ {G : Type 0} where
   refused_same s t x _ u (no_row a b c d e) = no_row (u.1 ∙ a) b c (subst (λ (v : State G). has_room v ≡ false) (sym u.0) d) (subst (λ (v : State G). Absent v x) (sym u.0) e)
 
   module _ (al : Algebra G) (decoded : ℕ → Option G) (file : List ℕ) where
-    pub stands_same : (base : Base G) (s t : Table G) → Unchanged s t → StandsFor al (based base) s → StandsFor al (based base) t
-    stands_same base s t u h = (u.1 ∙ h.0, h.1, rw u.0 h.2)
-
     -- what add makes of the record whose code n, grade g and statement x are read
     module _ (b p n : ℕ) (r : Result G Refusal) (g : G) (x : Statement) (s t : Table G) where
       module _ (code : n ≡ code_of file b p) (read : r ≡ or_no_grade (decoded n)) (right : r ≡ Ok g) (is : x ≡ statement_in file b p) where

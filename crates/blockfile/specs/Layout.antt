@@ -39,9 +39,13 @@ pub record FirstFilled (block : List ℕ) : Type 0 where
   pub count : slice_index_or block 5 0 ≡ 0
   pub unused : Zeros block 12 508
 
--- the last two bytes of each of the first n records are 0
+-- the last two bytes of record r are 0
+abbrev pub Tail : List ℕ → ℕ → Type 0
+Tail block r = (slice_index block (18 + 12 * r) ≡ 0) × (slice_index block (19 + 12 * r) ≡ 0)
+
+-- so are those of each of the first n records
 abbrev pub Tails : List ℕ → ℕ → Type 0
-Tails block n = (r : ℕ) → r < n → (slice_index block (18 + 12 * r) ≡ 0) × (slice_index block (19 + 12 * r) ≡ 0)
+Tails block n = (r : ℕ) → r < n → Tail block r
 
 -- another block has at most 41 records, whose last two bytes are unused, and nothing after them
 pub record LaterFilled (block : List ℕ) : Type 0 where

@@ -13,7 +13,7 @@ use Rattle.blockfile.specs.declared.fault.BlockFault.{BlockFault}
 use Rattle.blockfile.specs.declared.fault.BlockFault.TheVariants.{Sum, Layout, Begin, InRecord}
 use Rattle.blockfile.specs.declared.fault.LoadFault.{LoadFault}
 use Rattle.blockfile.specs.declared.fault.LoadFault.TheVariants.{Length, InBlock}
-use Rattle.blockfile.specs.Layout.{Whole, SoundBelow, count_in, code_of, statement_in, sizes_in}
+use Rattle.blockfile.specs.Layout.{count_in, code_of, statement_in, sizes_in}
 use Rattle.blockfile.specs.Faults.{BlocksChecked}
 
 -- statements with their grades, accepted in order
@@ -79,11 +79,11 @@ Sized a file s t (Err (Layout block)) = ⊥
 
 -- the whole file: first every block is checked, then the reasoner begins, then the records are accepted in order
 abbrev pub Loaded : {G : Type 0} → Algebra G → ℕ → (ℕ → Option G) → List ℕ → Table G → Table G → Result (Unit {0}) LoadFault → Type 0
-Loaded a letter decoded file s t (Ok _) = (n : ℕ) × (Whole file n × SoundBelow letter file n) × AcceptsBefore a decoded file n 0 t
+Loaded a letter decoded file s t (Ok _) = (n : ℕ) × BlocksChecked letter file (Ok n) × AcceptsBefore a decoded file n 0 t
 Loaded a letter decoded file s t (Err Length) = Unchanged s t × BlocksChecked letter file (Err Length)
 Loaded a letter decoded file s t (Err (InBlock (Sum block))) = Unchanged s t × BlocksChecked letter file (Err (InBlock (Sum block)))
 Loaded a letter decoded file s t (Err (InBlock (Layout block))) = Unchanged s t × BlocksChecked letter file (Err (InBlock (Layout block)))
 Loaded a letter decoded file s t (Err (InBlock (Begin why))) =
-    ((n : ℕ) × (Whole file n × SoundBelow letter file n)) × Begun a (sizes_in file) s t (Err why)
+    ((n : ℕ) × BlocksChecked letter file (Ok n)) × Begun a (sizes_in file) s t (Err why)
 Loaded a letter decoded file s t (Err (InBlock (InRecord f))) =
-    (n : ℕ) × (Whole file n × SoundBelow letter file n) × (block_at f < n) × StoppedAt a decoded file t f
+    (n : ℕ) × BlocksChecked letter file (Ok n) × (block_at f < n) × StoppedAt a decoded file t f

@@ -131,7 +131,7 @@ module _ {G : Type 0} (a : Algebra G) (laws : Laws a) where
       nothing_is_exact i x said at =
           let w = spoke_at i x said at in
           let base = base_at a calls os n i in
-          let run : RunAt a calls os n (capacity (view first)) i w.0 = record {
+          let run : RunAt a calls os n i w.0 = record {
             run = w.1.run;
             count = w.1.count;
             only = λ other r e. one_run a laws base other w.0 r w.1.run (e ∙ sym w.1.count);

@@ -55,8 +55,8 @@ module _ {G : Type 0} (a : Algebra G) (calls : List (Call G)) (outcomes : List (
   abbrev pub GradedContradictionExcludes : Type 0
   GradedContradictionExcludes = (i : ℕ) (g : G) → Told i contradiction (Graded g) → Unmeetable (base_at i)
 
-  -- the run before place i, on so many rows: there is only one of its length
-  pub record RunAt (rows i : ℕ) (settled : runs.Settled G) : Type 0 where
+  -- the run before place i: there is only one of its length
+  pub record RunAt (i : ℕ) (settled : runs.Settled G) : Type 0 where
     pub run : Run a (base_at i) settled
     pub count : length settled ≡ (before calls outcomes i).settled
     pub only : (other : runs.Settled G) → Run a (base_at i) other → length other ≡ (before calls outcomes i).settled → other ≡ settled
@@ -64,7 +64,7 @@ module _ {G : Type 0} (a : Algebra G) (calls : List (Call G)) (outcomes : List (
   -- ask says nothing exactly when the run stands ended and what was accepted gives no derivation
   abbrev pub NothingIsExact : ℕ → Type 0
   NothingIsExact rows = (i : ℕ) (x : Statement) (said : Answer G) → Told i x said →
-      (settled : runs.Settled G) × RunAt rows i settled × ((said ≡ Nothing) ↔ (Stands a (base_at i) rows settled Ended × Underivable a (base_at i) x))
+      (settled : runs.Settled G) × RunAt i settled × ((said ≡ Nothing) ↔ (Stands a (base_at i) rows settled Ended × Underivable a (base_at i) x))
 
   module _ (steps : List (Step G)) where
     -- the steps that an explanation of so many wrote at place j

@@ -27,7 +27,7 @@ use Rattle.saturation.specs.Phases.{is_begun, is_sealed, sizes_of}
 use Rattle.saturation.specs.Tables.{view, capacity}
 use Rattle.reasoner.specs.declared.asking.Answer.{Answer}
 use Rattle.reasoner.specs.Models.{based, empty_base, accepting, StandsFor, Holding}
-use Rattle.reasoner.specs.Calls.{AddRefused, before_begin, after_settle, misfit, individual, no_row, AllRowsTaken, after}
+use Rattle.reasoner.specs.Calls.{AddRefused, before_begin, after_settle, misfit, individual, no_row, AllRowsTaken, model_after}
 use Rattle.reasoner.specs.Asking as asking
 use Rattle.reasoner.specs.Asking.{AskRefused, Says}
 use Rattle.reasoner.proofs.Holding.{held, refused_misfit}
@@ -94,12 +94,12 @@ module _ {G : Type 0} (a : Algebra G) where
     pub settled : (b : Base G) → StandsFor a (based b) s → (n count : ℕ) (how : Stand) →
         ((later : runs.Settled G) (stand : Stand) → Settling a b (capacity (view s)) n [] later → Stands a b (capacity (view s)) later stand → (length later ≡ count) × (stand ≡ how)) →
         Performs a (Settle n) o s t old new →
-        (o ≡ Ok (Settled count how)) × ((later : runs.Settled G) × Settling a b (capacity (view s)) n [] later × Stands a b (capacity (view s)) later how × StandsFor a (after b later how) t)
+        (o ≡ Ok (Settled count how)) × ((later : runs.Settled G) × Settling a b (capacity (view s)) n [] later × Stands a b (capacity (view s)) later how × StandsFor a (model_after b later how) t)
     settled b stands n count how comes (same, (Ok r, is, made)) =
         let w = made.1 b stands in
         let c = comes w.0 r.1 w.1.1.0 w.1.1.1.0 in (
           is ∙ ap (λ (m : ℕ). Ok (Settled m r.1)) (sym w.1.0 ∙ c.0) ∙ ap (λ (k : Stand). Ok (Settled count k)) c.1,
-          (w.0, w.1.1.0, subst (λ (k : Stand). Stands a b (capacity (view s)) w.0 k) c.1 w.1.1.1.0, subst (λ (k : Stand). StandsFor a (after b w.0 k) t) c.1 w.1.1.1.1),
+          (w.0, w.1.1.0, subst (λ (k : Stand). Stands a b (capacity (view s)) w.0 k) c.1 w.1.1.1.0, subst (λ (k : Stand). StandsFor a (model_after b w.0 k) t) c.1 w.1.1.1.1),
         )
     settled b stands n count how comes (same, (Err e, is, made)) = absurd (both_ways _ made.2 (ap is_begun stands.0))
 
