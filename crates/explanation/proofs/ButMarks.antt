@@ -1,5 +1,5 @@
 -- Two states of a table that differ in marks alone.
-use Rattle.std.proofs.Common.{◌≡◌, ℕ, ◌<◌, ◌≤◌, Bool, List, length, get_or, sym, refl, ap, ◌∙◌, subst, ⊎_elim, arith, length-set}
+use Rattle.std.proofs.Common.{◌≡◌, ℕ, ◌+◌, ◌<◌, ◌≤◌, Bool, List, length, get_or, sym, refl, ap, ◌∙◌, subst, ⊎_elim, arith, length-set}
 use Rattle.std.proofs.lemmas.List.{get_or-set_same, get_or-set_other, ext_get_or}
 use Rattle.standpoint.specs.declared.statement.Statement.{Statement}
 use Rattle.standpoint.specs.declared.step.Step.{Step}
@@ -59,10 +59,10 @@ module _ {G : Type 0} where
     kept_same k = ap (λ (j : ℕ). (row_at u j).kept) (turn_same k) ∙ ap (λ (r : Row). r.kept) (b.each (turn_at s k))
 
     pub rests_same : (k j : ℕ) → Rests u k j → Rests s k j
-    rests_same k j r = subst (λ (v : Kept). Names v j) (kept_same k) r
+    rests_same k j r = subst (λ (v : Kept). Names v (j + 1)) (kept_same k) r
 
     pub rests_back : (k j : ℕ) → Rests s k j → Rests u k j
-    rests_back k j r = subst (λ (v : Kept). Names v j) (sym (kept_same k)) r
+    rests_back k j r = subst (λ (v : Kept). Names v (j + 1)) (sym (kept_same k)) r
 
     premise_same : (k : ℕ) (p : Statement × G) → Premise u k p → Premise s k p
     premise_same k p r =

@@ -1,45 +1,44 @@
 -- Marking all that a settled statement rests on.
-use Rattle.std.proofs.Common.{◌≡◌, ℕ, ◌+◌, ◌-◌, ◌<◌, ◌≤◌, max, Bool, true, false, leb, ◌⊎◌, length, sym, refl, ◌∙◌, subst, inl, inr, ⊎_elim, arith, leb-false, leb-true}
+use Rattle.std.proofs.Common.{◌≡◌, ℕ, ◌+◌, ◌-◌, ◌<◌, ◌≤◌, max, Bool, true, false, leb, length, sym, refl, ◌∙◌, subst, inl, inr, ⊎_elim, arith, leb-false, leb-true}
 use borrow.Author.Tests.{both_ways}
 use Rattle.saturation.specs.declared.row.Kept.{Kept}
 use Rattle.saturation.specs.declared.table.Table.{Table}
 use Rattle.saturation.specs.Tables.{State, view, Same}
 use Rattle.saturation.proofs.Offers.{equal_or}
 use Rattle.saturation.proofs.Sameness.{same_then}
-use Rattle.explanation.specs.Needed.{kept_at, Names, Rests, Needed, itself, below, Founded, Unfounded, Chooses}
-use Rattle.explanation.specs.Marks.{mark_at, with_mark, Clean, ButMarks, AddsMarks, RestsEarlier, MarksFounded, MarksDown}
+use Rattle.explanation.specs.Needed.{kept_at, Names, Rests, RestsEarlier, Needed, itself, below, Founded, Unfounded, Chooses}
+use Rattle.explanation.specs.Marks.{mark_at, with_mark, Clean, ButMarks, AddsMarks, MarksFounded, MarksDown}
 use Rattle.explanation.proofs.ButMarks.{but_marks_trans, but_one_mark, mark_here, mark_there, rests_same, rests_back}
 
--- one of three places
-abbrev pub OneOf : Kept → ℕ → Type 0
-OneOf kept p = (p ≡ kept.first) ⊎ ((p ≡ kept.second) ⊎ (p ≡ kept.third))
-
-names_one : (kept : Kept) (p j : ℕ) → p ≡ j + 1 → OneOf kept p → Names kept j
-names_one kept p j e = ⊎_elim (λ f. inl (sym f ∙ e)) (⊎_elim (λ f. inr (inl (sym f ∙ e))) (λ f. inr (inr (sym f ∙ e))))
+-- a place that is not 0 is that of a settled statement
+rests_on : {G : Type 0} (s : State G) (k p : ℕ) (kept : Kept) → kept ≡ kept_at s k → 0 < p → Names kept p → Rests s k (p - 1)
+rests_on s k p kept is some named =
+    let place : p ≡ p - 1 + 1 = omega arith in
+    subst (λ (w : Kept). Names w (p - 1 + 1)) is (subst (Names kept) place named)
 
 -- the latest place that a step names decides whether it names earlier ones alone
 pub rests_told : {G : Type 0} (s : State G) (k p : ℕ) (kept : Kept) → kept ≡ kept_at s k → p ≡ max (max kept.first kept.second) kept.third → RestsEarlier s k (leb p k)
 rests_told s k p kept is latest = go (leb p k) refl
   where
-    one_of : OneOf kept p
-    one_of = ⊎_elim (λ e. inr (inr e)) (λ ne. ⊎_elim (λ e. inr (inl e)) (λ ne2. inl (omega arith)) (equal_or p kept.second)) (equal_or p kept.third)
+    named : Names kept p
+    named = ⊎_elim (λ e. inr (inr e)) (λ ne. ⊎_elim (λ e. inr (inl e)) (λ ne2. inl (omega arith)) (equal_or kept.second p)) (equal_or kept.third p)
 
     go : (b : Bool) → leb p k ≡ b → RestsEarlier s k b
     go true e =
         let low = leb-true p k e in
-        subst (λ (w : Kept). (j : ℕ) → Names w j → j < k) is
+        subst (λ (w : Kept). (j : ℕ) → Names w (j + 1) → j < k) is
         (λ j. ⊎_elim (λ f. omega arith) (⊎_elim (λ f. omega arith) (λ f. omega arith)))
     go false e =
         let high = leb-false p k e in
-        (p - 1, subst (λ (w : Kept). Names w (p - 1)) is (names_one kept p (p - 1) (omega arith) one_of), omega arith)
+        (p - 1, rests_on s k p kept is (omega arith) named, omega arith)
 
 -- a place of a step that rests on earlier ones alone
-pub place_within : {G : Type 0} (s : State G) (k p n : ℕ) (kept : Kept) → kept ≡ kept_at s k → ((j : ℕ) → Rests s k j → j < k) → k < n → OneOf kept p → p ≤ n
+pub place_within : {G : Type 0} (s : State G) (k p n : ℕ) (kept : Kept) → kept ≡ kept_at s k → RestsEarlier s k true → k < n → Names kept p → p ≤ n
 place_within s k p n kept is all h which =
     ⊎_elim
     (λ z. omega arith)
     (λ some.
-    let low = all (p - 1) (subst (λ (w : Kept). Names w (p - 1)) is (names_one kept p (p - 1) (omega arith) which)) in
+    let low = all (p - 1) (rests_on s k p kept is (omega arith) which) in
     omega arith)
     (equal_or p 0)
 

@@ -3,8 +3,8 @@
 ghost use Rattle.std.specs.Prelude.{◌≡◌, ◌+◌, ◌<◌, ◌≤◌, true, false, map};
 ghost use Rattle.saturation.specs.Phases.{is_begun};
 ghost use Rattle.saturation.specs.Tables.{view, Same};
-ghost use Rattle.explanation.specs.Needed.{kept_at, Rests};
-ghost use Rattle.explanation.specs.Marks.{mark_at, remarked, with_mark, Clean, ButMarks, AddsMarks, RestsEarlier, MarksNeeded};
+ghost use Rattle.explanation.specs.Needed.{kept_at, Rests, RestsEarlier};
+ghost use Rattle.explanation.specs.Marks.{mark_at, remarked, with_mark, Clean, ButMarks, AddsMarks, MarksNeeded};
 
 use saturation::{Kept, Row, Table};
 use standpoint::Refusal;

@@ -1,8 +1,8 @@
 // Writing the marked steps out.
 ghost use Rattle.std.specs.Prelude.{◌≡◌, ◌+◌, ◌<◌, ◌≤◌, true, length, slice_set, filter};
 ghost use Rattle.saturation.specs.Tables.{view};
-ghost use Rattle.explanation.specs.Needed.{rank, Renumbers, Written};
-ghost use Rattle.explanation.specs.Marks.{mark_at, MarksFounded, RestsEarlier};
+ghost use Rattle.explanation.specs.Needed.{rank, Renumbers, Written, RestsEarlier};
+ghost use Rattle.explanation.specs.Marks.{mark_at, MarksFounded};
 
 use crate::marks::marked;
 use saturation::{Row, Table};
