@@ -53,13 +53,13 @@ pub record LaterFilled (block : List ℕ) : Type 0 where
   pub tails : Tails block (slice_index block 5)
   pub unused : Zeros block (8 + 12 * slice_index block 5) 508
 
-abbrev pub Filled : ℕ → List ℕ → Type 0
-Filled zero block = FirstFilled block
-Filled (suc n) block = LaterFilled block
+abbrev pub BlockFilled : ℕ → List ℕ → Type 0
+BlockFilled zero block = FirstFilled block
+BlockFilled (suc n) block = LaterFilled block
 
 -- all but the sum is as it has to be in the block of this number
 abbrev pub LaidOut : ℕ → ℕ → List ℕ → Type 0
-LaidOut letter number block = Headed letter number block × Filled number block
+LaidOut letter number block = Headed letter number block × BlockFilled number block
 
 abbrev pub SoundBlock : ℕ → ℕ → List ℕ → Type 0
 SoundBlock letter number block = Summed block × LaidOut letter number block

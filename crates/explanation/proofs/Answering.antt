@@ -11,7 +11,7 @@ use Rattle.saturation.specs.Phases.{is_begun}
 use Rattle.saturation.specs.Rows.{Unmarked}
 use Rattle.saturation.specs.Tables.{State, view, statement_at, turn_at}
 use Rattle.reasoner.specs.Asking.{Askable}
-use Rattle.explanation.specs.Needed.{Unfounded, rank, Written}
+use Rattle.explanation.specs.Needed.{Unfounded, rank, ChosenWritten}
 use Rattle.explanation.specs.Marks.{mark_at, Clean, ButMarks, MarksDown}
 use Rattle.explanation.specs.Explaining.{FirstSettled, SettledAs, Finds, NotFound, not_settled, NotWritten, rests_on_later, Writes, WritesNeeded, not_found, not_written, Explains}
 use Rattle.explanation.proofs.ButMarks.{but_marks_trans, clean_same, written_same}
@@ -42,7 +42,7 @@ module _ {G : Type 0} where
     pub refuses_short : (room : ℕ) → room < rank (mark_at u) (t + 1) → NotWritten s t room BufferTooShort
     refuses_short room short = NotWritten.too_short (mark_at u) (marks_chosen s u t p) (marks_founded s u t p) short
 
-    pub writes_all : (old new : List (Step G)) (count : ℕ) → count ≡ rank (mark_at u) (t + 1) → count ≤ length old → Written u (mark_at u) (t + 1) old new → WritesNeeded s t old new count
+    pub writes_all : (old new : List (Step G)) (count : ℕ) → count ≡ rank (mark_at u) (t + 1) → count ≤ length old → ChosenWritten u (mark_at u) (t + 1) old new → WritesNeeded s t old new count
     writes_all old new count is room w = record {
       chosen = mark_at u;
       chooses = marks_chosen s u t p;

@@ -10,7 +10,7 @@ use Rattle.saturation.specs.Rows.{no_row}
 use Rattle.saturation.specs.Tables.{State, row_at, statement_at, turn_at}
 use Rattle.saturation.specs.Searching.{Premise}
 use Rattle.saturation.proofs.Offers.{equal_or, below_or}
-use Rattle.explanation.specs.Needed.{kept_at, Names, Rests, rank, Renumbers, Written}
+use Rattle.explanation.specs.Needed.{kept_at, Names, Rests, rank, Renumbers, ChosenWritten}
 use Rattle.explanation.specs.Marks.{mark_at, remarked, with_mark, Clean, ButMarks}
 
 module _ {G : Type 0} where
@@ -83,7 +83,7 @@ module _ {G : Type 0} where
         }
 
     -- what is written does not depend on the marks
-    pub written_same : (m : ℕ → Bool) (n : ℕ) (old new : List (Step G)) → Written u m n old new → Written s m n old new
+    pub written_same : (m : ℕ → Bool) (n : ℕ) (old new : List (Step G)) → ChosenWritten u m n old new → ChosenWritten s m n old new
     written_same m n old new w = record { long = w.long; each = λ k h t d. renumbers_same m k (get_or new (rank m k) d) (w.each k h t d); rest = w.rest }
 
     -- with all marks taken back the table is as it was

@@ -21,7 +21,7 @@ use Rattle.saturation.specs.Offering.{Explained}
 use Rattle.saturation.specs.Searching.{Lists}
 use Rattle.saturation.proofs.Lists.{premise_at, stands_same}
 use Rattle.saturation.proofs.Stepping.{stands_in}
-use Rattle.explanation.specs.Needed.{kept_at, Rests, Needed, itself, below, Founded, rank, Chooses, Renumbers, Written}
+use Rattle.explanation.specs.Needed.{kept_at, Rests, Needed, itself, below, Founded, rank, Chooses, Renumbers, ChosenWritten}
 use Rattle.explanation.proofs.Ranks.{rank_taken, rank_below, unrank}
 
 -- the front of a list of right steps
@@ -45,7 +45,7 @@ module _ {G : Type 0} (a : Algebra G) (base : Base G) (xs : List (Step G)) (coun
 
 module _ {G : Type 0} (a : Algebra G) (base : Base G) (range : InRange base.sizes) (l : Settled G) (run : Run a base l) (s : State G) (lists : Lists s l) (ex : Explained a base l s)
     (t : ℕ) (within : t < s.settled) (m : ℕ → Bool) (chooses : Chooses s t m) (founded : Founded s t)
-    (old new : List (Step G)) (room : rank m (t + 1) ≤ length old) (w : Written s m (t + 1) old new) where
+    (old new : List (Step G)) (room : rank m (t + 1) ≤ length old) (w : ChosenWritten s m (t + 1) old new) where
   -- what is written for k was settled as the k-th
   settled_there : (k : ℕ) → k ≤ t → (v : Step G) → Renumbers s m k v → StandsAt l k (given v)
   settled_there k h v wr = premise_at s l k (given v) lists (omega arith) wr.gives

@@ -14,7 +14,7 @@ use Rattle.runs.specs.Runs.{Settled}
 use Rattle.saturation.specs.declared.table.Table.{Table}
 use Rattle.saturation.specs.Tables.{State, view, statement_at, turn_at}
 use Rattle.reasoner.specs.Asking.{BestGrade, Excludes, Askable, AskRefused}
-use Rattle.explanation.specs.Needed.{Founded, Unfounded, rank, Chooses, Written}
+use Rattle.explanation.specs.Needed.{Founded, Unfounded, rank, Chooses, ChosenWritten}
 
 -- none of the first n settled statements is x
 abbrev pub NoneBelow : {G : Type 0} → State G → Statement → ℕ → Type 0
@@ -48,7 +48,7 @@ pub record WritesNeeded {G : Type 0} (s : State G) (t : ℕ) (old new : List (St
   pub founded : Founded s t
   pub counts : count ≡ rank chosen (t + 1)
   pub room : count ≤ length old
-  pub written : Written s chosen (t + 1) old new
+  pub written : ChosenWritten s chosen (t + 1) old new
 
 -- why they are not: one rests on a later one, else they are more than the buffer has places
 pub data NotWritten {G : Type 0} (s : State G) (t room : ℕ) : Refusal → Type 0 where

@@ -55,7 +55,7 @@ pub record Renumbers {G : Type 0} (s : State G) (m : ℕ → Bool) (k : ℕ) (v 
   pub gives : Premise s k (given v)
 
 -- of the first n settled ones those chosen are written, one after the other; the buffer is else as it was
-pub record Written {G : Type 0} (s : State G) (m : ℕ → Bool) (n : ℕ) (old new : List (Step G)) : Type 0 where
+pub record ChosenWritten {G : Type 0} (s : State G) (m : ℕ → Bool) (n : ℕ) (old new : List (Step G)) : Type 0 where
   pub long : length new ≡ length old
   pub each : (k : ℕ) → k < n → m k ≡ true → (d : Step G) → Renumbers s m k (slice_index_or new (rank m k) d)
   pub rest : (i : ℕ) → rank m n ≤ i → (d : Step G) → slice_index_or new i d ≡ slice_index_or old i d
