@@ -91,7 +91,7 @@ pub(crate) fn mark_needed<G: Copy>(reasoner: &mut Table<'_, G>, t: usize) -> Res
     ensures state { MarksNeeded (view reasoner.old) (view reasoner.new) t result }
 {
     set_mark(reasoner, t);
-    for k in (0..=t).rev() {
+    for k in (0..t + 1).rev() {
         if marked(reasoner, k) {
             if !rests_earlier(reasoner, k) {
                 return Err(Refusal::RestsOnLater);
