@@ -20,7 +20,7 @@ over_then s t u x y = (y.0 ∙ x.0, y.1 ∙ x.1)
 
 -- a block beyond the first has at most 41 records
 pub few_records : (letter : ℕ) (file : List ℕ) (b : ℕ) → 1 ≤ b → SoundBlock letter b (block_of file b) → count_in file b ≤ 41
-few_records letter file zero h sound = absurd (let z : ⊥ = omega arith in z)
+few_records letter file zero h sound = absurd (omega arith)
 few_records letter file (suc b) h sound =
     let rest = drop (512 * suc b) file in
     let e : get_or (block_of file (suc b)) 5 0 ≡ count_in file (suc b) = get_or-take 512 rest 5 0 (omega arith) ∙ get_or-drop (512 * suc b) file 5 0 in

@@ -14,7 +14,7 @@ tells true P e = e.0 refl
 tells false P e = λ p. let z : ◌≡◌ {A = Bool} false true = e.1 p in cc
 
 pub chunk_at : {A : Type 0} (n k i : ℕ) (xs : List A) (d : List A) → i < k → get_or (first_chunks n k xs) i d ≡ take n (drop (n * i) xs)
-chunk_at n zero i xs d h = absurd (let z : ⊥ = omega arith in z)
+chunk_at n zero i xs d h = absurd (omega arith)
 chunk_at n (suc k) zero xs d h = let e : n * 0 ≡ 0 = omega arith in rw e refl
 chunk_at n (suc k) (suc i) xs d h =
     let e : n + n * i ≡ n * suc i = omega arith in

@@ -48,7 +48,7 @@ module _ {G : Type 0} where
           (λ e. subst (λ (i : ℕ). row_at (with_mark s k b) i ≡ remarked (row_at s i) (mark_at (with_mark s k b) i)) (sym e) (row_here ∙ ap (remarked (row_at s k)) (sym mark_here)))
           (λ ne. row_there j ne ∙ ap (remarked (row_at s j)) (sym (mark_there j ne)))
           (equal_or j k);
-      above = λ j le. row_there j (λ e. let z : ⊥ = omega arith in z);
+      above = λ j le. row_there j (λ e. omega arith);
     }
 
   module _ (s u : State G) (b : ButMarks s u) where

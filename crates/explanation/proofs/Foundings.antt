@@ -11,7 +11,7 @@ use Rattle.explanation.specs.Needed.{kept_at, Names, RestsEarlier, Needed, itsel
 
 -- a place of a rule's premises is within the list that they stand in
 place_low : {X : Type 0} (xs : List X) (places : List ℕ) (premises : List X) → StandAt xs places premises → (n j : ℕ) → place_or places n ≡ j + 1 → j < length xs
-place_low xs [] premises st n j e = absurd (let z : ⊥ = omega arith in z)
+place_low xs [] premises st n j e = absurd (omega arith)
 place_low xs (i ∷ is) [] st n j e = absurd st
 place_low xs (i ∷ is) (p ∷ ps) st zero j e = let h = st.0.0 in omega arith
 place_low xs (i ∷ is) (p ∷ ps) st (suc n) j e = place_low xs is ps st.1 n j e

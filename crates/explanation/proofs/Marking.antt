@@ -61,7 +61,7 @@ module _ {G : Type 0} where
         but_marks = a.but_marks;
         own = a.new t refl;
         sound = λ j lt m. ⊎_elim (λ x. absurd (both_ways (mark_at s j) (clean j lt) x)) (λ i. let f : t ≡ j = omega arith in (subst (Needed s t) f itself, omega arith)) (a.only j m);
-        closed = λ q le lt. absurd (let x : ⊥ = omega arith in x);
+        closed = λ q le lt. absurd (omega arith);
       }
 
   marks_skip : (s u : State G) (t i k : ℕ) → k + i ≡ t → mark_at u k ≡ false → MarksDown s u t i → MarksDown s u t (i + 1)
@@ -89,7 +89,7 @@ module _ {G : Type 0} where
             (omega arith, a.new j r'))
             (λ ne. ⊎_elim
             (λ y. let c = p.closed q le (omega arith) y j r in (c.0, a.old j c.1))
-            (λ y. let low = early q y in absurd (let z : ⊥ = omega arith in z))
+            (λ y. let low = early q y in absurd (omega arith))
             (a.only q x))
             (equal_or q k);
       }

@@ -48,7 +48,7 @@ module _ {G : Type 0} (a : Algebra G) (laws : Laws a) (b : Base G) (l : Settled 
   unwritten_means room t at (NotWritten.rests_on_later (k, n, (j, r, le))) =
       let o = settled_so t at in
       let lt = explained_founded a b l (view s) h.explained t (x, o.0) o.1.0 k n j r in
-      absurd (let z : ⊥ = omega arith in z)
+      absurd (omega arith)
   unwritten_means room t at (NotWritten.too_short m chooses founded short) =
       let o = settled_so t at in
       let most = rank_most m (t + 1) in

@@ -82,7 +82,7 @@ module _ {G : Type 0} (a : Algebra G) (base : Base G) (range : InRange base.size
     -- a rule over premises that stand among those settled before
     rule_agrees : (rule : ℕ) (places : List ℕ) (premises : List (Statement × G)) → kept_at s k ≡ kept_of rule places → StandAt (take k l) places premises →
         Rule base.sizes.individuals v.rule (statements_of premises) v.statement → v.grade ≡ joined a (grades_of premises) → Agrees a base new (rank m k) v
-    rule_agrees rule [] [] e st gives grade = let h = few_premises gives in absurd (let z : ⊥ = omega arith in z)
+    rule_agrees rule [] [] e st gives grade = let h = few_premises gives in absurd (omega arith)
     rule_agrees rule [] (p ∷ ps) e st gives grade = absurd st
     rule_agrees rule (i ∷ is) [] e st gives grade = absurd st
     rule_agrees rule (i ∷ []) (p ∷ []) e st gives grade =
@@ -114,7 +114,7 @@ module _ {G : Type 0} (a : Algebra G) (base : Base G) (range : InRange base.size
         by_three u.step x.step y.step (earlier_line v.first i p (wr.first ∙ ap (rank m) e1) u) (earlier_line v.second j q (wr.second ∙ ap (rank m) e2) x) (earlier_line v.third h r (wr.third ∙ ap (rank m) e3) y) by.0 by.1
     rule_agrees rule (i ∷ j ∷ h ∷ []) (p ∷ q ∷ r ∷ o ∷ ps) e st gives grade = absurd st.1.1.1
     rule_agrees rule (i ∷ j ∷ h ∷ f ∷ is) (p ∷ q ∷ r ∷ []) e st gives grade = absurd st.1.1.1
-    rule_agrees rule (i ∷ j ∷ h ∷ f ∷ is) (p ∷ q ∷ r ∷ o ∷ ps) e st gives grade = let few = few_premises gives in absurd (let z : ⊥ = omega arith in z)
+    rule_agrees rule (i ∷ j ∷ h ∷ f ∷ is) (p ∷ q ∷ r ∷ o ∷ ps) e st gives grade = let few = few_premises gives in absurd (omega arith)
 
     step_agrees : KeptRight a base (take k l) (given v) (kept_at s k) → Agrees a base new (rank m k) v
     step_agrees (kept_accepted e mem) =

@@ -27,12 +27,12 @@ module _ {G : Type 0} (s : State G) (m : ℕ → Bool) (old : List (Step G)) whe
         each = λ j lt t d. ⊎_elim
             (λ before.
             let lo = rank_below m j k before t in
-            subst (Renumbers s m j) (sym (get_or-set_other b (rank m k) (rank m j) v d (λ x. let z : ⊥ = omega arith in z))) (w.each j before t d))
+            subst (Renumbers s m j) (sym (get_or-set_other b (rank m k) (rank m j) v d (λ x. omega arith))) (w.each j before t d))
             (λ i.
             subst (λ (q : ℕ). Renumbers s m q (get_or (set b (rank m k) v) (rank m q) d)) (sym i)
             (subst (Renumbers s m k) (sym (get_or-set_same b (rank m k) v d (omega arith))) right))
             (last_or j k lt);
-        rest = λ i h d. get_or-set_other b (rank m k) i v d (λ x. let z : ⊥ = omega arith in z) ∙ w.rest i (omega arith) d;
+        rest = λ i h d. get_or-set_other b (rank m k) i v d (λ x. omega arith) ∙ w.rest i (omega arith) d;
       }
 
   -- what the writing loop keeps

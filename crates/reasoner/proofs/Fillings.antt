@@ -36,7 +36,7 @@ one_row al s t x g r taken apart =
     let first : statement_at t s.len ≡ x = taken.only s.len (omega arith) (omega arith) in
     let second : statement_at t (s.len + 1) ≡ x = taken.only (s.len + 1) (omega arith) (omega arith) in
     let same = taken.apart apart s.len (s.len + 1) (omega arith) (omega arith) (first ∙ sym second) in
-    absurd (let z : ⊥ = omega arith in z))
+    absurd (omega arith))
     (λ fine. fine)
     (below_or (s.len + 1) t.len)
 
@@ -78,7 +78,7 @@ module _ {G : Type 0} (al : Algebra G) (n : Sizes) (s : State G) (k : ℕ) (f : 
       took false e =
           let no = (taken.refused e).1 in
           let few = f.few in
-          absurd (let z : ⊥ = grind (arith, nat_tests) in z)
+          absurd (grind (arith, nat_tests))
 
   pub filled_skip : slice_get (tautologies n) k ≡ None → Filled al n s (k + 1)
   filled_skip none = record {
@@ -93,19 +93,19 @@ module _ {G : Type 0} (al : Algebra G) (n : Sizes) (s : State G) (k : ℕ) (f : 
   }
     where
       never : {y : Statement} → None ≡ Some y → ⊥
-      never e = let z : ◌≡◌ {A = ℕ} 0 1 = cc in omega arith
+      never e = grind arith
 
 -- no row is taken
 pub filled_none : {G : Type 0} (al : Algebra G) (n : Sizes) (rows : List Row) (grades : List G) → Filled al n (tables.fresh rows grades) 0
 filled_none al n rows grades = record {
   offered = [];
-  rows = record { apart = λ i j h. absurd (let z : ⊥ = omega arith in z); every = λ x g m. absurd m; from = λ i h. absurd (let z : ⊥ = omega arith in z); best = λ i h. absurd (let z : ⊥ = omega arith in z) };
+  rows = record { apart = λ i j h. absurd (omega arith); every = λ x g m. absurd m; from = λ i h. absurd (omega arith); best = λ i h. absurd (omega arith) };
   sound = λ o m. absurd m;
-  complete = λ j x h. absurd (let z : ⊥ = omega arith in z);
+  complete = λ j x h. absurd (omega arith);
   few = omega arith;
   unsettled = refl;
-  opened = λ i h. absurd (let z : ⊥ = omega arith in z);
-  right = λ i h. absurd (let z : ⊥ = omega arith in z);
+  opened = λ i h. absurd (omega arith);
+  right = λ i h. absurd (omega arith);
 }
 
 -- all tautologies are taken: the rows hold the run with nothing accepted and nothing settled
@@ -123,7 +123,7 @@ filled_holds {G} al n s k f all = record {
   sound = λ o m. let p = f.sound o m in leaf (subst (Leaf al (empty_base n) o.0) (sym p.1) (tautology p.0));
   complete = known;
   right = f.right;
-  explained = λ j h. absurd (let z : ⊥ = omega arith in z);
+  explained = λ j h. absurd (omega arith);
 }
   where
     none : (j : ℕ) → j < s.settled → ⊥

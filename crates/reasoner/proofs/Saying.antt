@@ -74,7 +74,7 @@ graded_row {G} s l is x g (i, within, holds, closed, grade) =
 pub ended_out : (m n : ℕ) → Ended ≡ cond (leb m n) Ended Open → m ≤ n
 ended_out m n is =
     ⊎_elim
-    (λ lt. let no : leb m n ≡ false = grind (arith, nat_tests) in let z : ◌≡◌ {A = ℕ} 0 1 = cc in absurd (let y : ⊥ = omega arith in y))
+    (λ lt. let no : leb m n ≡ false = grind (arith, nat_tests) in absurd (grind arith))
     (λ le. le)
     (below_or n m)
 
@@ -85,7 +85,7 @@ other_room r m n is other =
     (λ le.
     let yes : leb m n ≡ true = grind (arith, nat_tests) in
     let ended : r ≡ Ended = is ∙ ap (λ (b : Bool). cond b Ended Open) yes in
-    absurd (⊎_elim (λ e. let z : ◌≡◌ {A = ℕ} 0 1 = cc in omega arith) (λ e. let z : ◌≡◌ {A = ℕ} 0 1 = cc in omega arith) other))
+    absurd (⊎_elim (λ e. grind arith) (λ e. grind arith) other))
     (below_or n m)
 
 module _ {G : Type 0} (a : Algebra G) (b : Base G) (t : Table G) where
@@ -109,8 +109,8 @@ module _ {G : Type 0} (a : Algebra G) (b : Base G) (t : Table G) where
 
   -- nor does one that stands full
   pub full_not_ended : {l : Settled G} {n : Sizes} → t.phase ≡ phase.Full n → Holding a b t l → Stands a b (capacity (view t)) l Ended → ⊥
-  full_not_ended {n = n} full (taking (is, range, h)) ended = let e : phase.Taking b.sizes ≡ phase.Full n = sym is ∙ full in let z : ◌≡◌ {A = ℕ} 0 1 = cc in omega arith
-  full_not_ended {n = n} full (going (is, range, h)) ended = let e : phase.Running b.sizes ≡ phase.Full n = sym is ∙ full in let z : ◌≡◌ {A = ℕ} 0 1 = cc in omega arith
+  full_not_ended {n = n} full (taking (is, range, h)) ended = let e : phase.Taking b.sizes ≡ phase.Full n = sym is ∙ full in grind arith
+  full_not_ended {n = n} full (going (is, range, h)) ended = let e : phase.Running b.sizes ≡ phase.Full n = sym is ∙ full in grind arith
   full_not_ended full (standing (is, range, h)) ended = ended.0 h.full
 
   -- a settled grade is the best, and if x is the contradiction, the base is unmeetable

@@ -64,7 +64,7 @@ module _ {G : Type 0} (a : Algebra G) where
   begin_on old n (Ok _) made = record {
     tied = begun [] (omega arith) (taking made.2) refl;
     begins = omega arith;
-    stays = λ e. absurd (let z : ⊥ = omega arith in z);
+    stays = λ e. absurd (omega arith);
   }
   begin_on old n (Err e) made = still old made.0
 

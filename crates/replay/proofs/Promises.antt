@@ -38,7 +38,7 @@ use Rattle.replay.proofs.Places.{Place, place, rows_kept, tied_at, begins_up}
 -- a performed call has an answer
 answered : {G R : Type 0} (done : R → Done G) (r : Result R Refusal) (d : Done G) → ◌≡◌ {A = Outcome G} (Ok d) (as_outcome done r) → (x : R) × (r ≡ Ok x) × (d ≡ done x)
 answered done (Ok x) d is = (x, refl, cc)
-answered done (Err e) d is = let z : ◌≡◌ {A = ℕ} 0 1 = cc in absurd (let y : ⊥ = omega arith in y)
+answered done (Err e) d is = absurd (grind arith)
 
 -- so many steps of the room, taken whether through its first places or not, are those that stand at the end
 module _ {X : Type 0} (w count places : ℕ) (end left : List X) where
@@ -49,9 +49,9 @@ module _ {X : Type 0} (w count places : ℕ) (end left : List X) where
 -- nothing is said exactly when the run stands ended and there is no derivation
 exactly : {G : Type 0} {a : Algebra G} (b : Base G) (l : runs.Settled G) (rows : ℕ) (x : Statement) (said : Answer G) → Says a b l rows x said →
     (said ≡ Nothing) ↔ (Stands a b rows l Ended × Underivable a b x)
-exactly b l rows x (Graded g) says = (λ e. let z : ◌≡◌ {A = ℕ} 0 1 = cc in absurd (let y : ⊥ = omega arith in y), λ r. absurd (r.1 g says.1.0))
+exactly b l rows x (Graded g) says = (λ e. absurd (grind arith), λ r. absurd (r.1 g says.1.0))
 exactly b l rows x Nothing says = (λ e. (says.1, says.2), λ r. refl)
-exactly b l rows x Pending says = (λ e. let z : ◌≡◌ {A = ℕ} 0 1 = cc in absurd (let y : ⊥ = omega arith in y), λ r. absurd (says.1 r.0))
+exactly b l rows x Pending says = (λ e. absurd (grind arith), λ r. absurd (says.1 r.0))
 
 -- a reasoner that was asked, over what the past accepted
 pub record Spoke {G : Type 0} (a : Algebra G) (p : Past G) (rows : ℕ) (x : Statement) (said : Answer G) (l : runs.Settled G) : Type 0 where
@@ -141,7 +141,7 @@ module _ {G : Type 0} (a : Algebra G) (laws : Laws a) where
     -- a statement that got a grade is settled from then on, over the same base, until the next begin
     asked_settled : {j : ℕ} {s : Table G} {q : List (Step G)} (so_far : Performed a calls os first steps j s q) (i : ℕ) (x : Statement) (g : G) → Told a calls os j i x (Graded g) →
         (before calls os j).begins ≡ (before calls os i).begins → In (settled_in (tied_at a calls os first steps asleep so_far)) (x, g) × ((before calls os j).base ≡ (before calls os i).base)
-    asked_settled none i x g (below, is_call, is_o) same = absurd (let z : ⊥ = omega arith in z)
+    asked_settled none i x g (below, is_call, is_o) same = absurd (omega arith)
     asked_settled (one_more {i = k} {t} {u} {p} {q} so_far rows long kept here) i x g (below, is_call, is_o) same =
         let now = tied_at a calls os first steps asleep so_far in
         let on = goes_on a now (call_at calls k) (outcome_at os k) (drop (written os k) p) (drop (written os k) q) here in
