@@ -13,14 +13,14 @@ use Rattle.blockfile.specs.declared.fault.RecordFault.{RecordFault}
 use Rattle.blockfile.specs.declared.fault.RecordFault.TheVariants.{Add}
 use Rattle.blockfile.specs.Codes.{or_no_grade}
 use Rattle.blockfile.specs.Layout.{block_of, count_in, code_of, statement_in, sizes_in, SoundBlock}
-use Rattle.blockfile.specs.Loads.{accepting_on, accepting_all, Reads, reads_record, reads_block, AcceptsBefore, RecordLoaded}
+use Rattle.blockfile.specs.Loads.{accepting_on, Reads, reads_record, reads_block, AcceptsBefore, RecordLoaded}
 
 pub over_then : {G : Type 0} (s t u : Table G) → OverSame s t → OverSame t u → OverSame s u
 over_then s t u x y = (y.0 ∙ x.0, y.1 ∙ x.1)
 
 -- a block beyond the first has at most 41 records
 pub few_records : (letter : ℕ) (file : List ℕ) (b : ℕ) → 1 ≤ b → SoundBlock letter b (block_of file b) → count_in file b ≤ 41
-few_records letter file zero h sound = absurd (let z : ⊥ = omega arith in z)
+few_records letter file zero h sound = absurd (omega arith)
 few_records letter file (suc b) h sound =
     let rest = drop (512 * suc b) file in
     let e : get_or (block_of file (suc b)) 5 0 ≡ count_in file (suc b) = get_or-take 512 rest 5 0 (omega arith) ∙ get_or-drop (512 * suc b) file 5 0 in
@@ -45,9 +45,6 @@ module _ {G : Type 0} where
   refused_same s t x _ u (no_row a b c d e) = no_row (u.1 ∙ a) b c (subst (λ (v : State G). has_room v ≡ false) (sym u.0) d) (subst (λ (v : State G). Absent v x) (sym u.0) e)
 
   module _ (al : Algebra G) (decoded : ℕ → Option G) (file : List ℕ) where
-    pub stands_same : (base : Base G) (s t : Table G) → Unchanged s t → StandsFor al (based base) s → StandsFor al (based base) t
-    stands_same base s t u h = (u.1 ∙ h.0, h.1, rw u.0 h.2)
-
     -- what add makes of the record whose code n, grade g and statement x are read
     module _ (b p n : ℕ) (r : Result G Refusal) (g : G) (x : Statement) (s t : Table G) where
       module _ (code : n ≡ code_of file b p) (read : r ≡ or_no_grade (decoded n)) (right : r ≡ Ok g) (is : x ≡ statement_in file b p) where

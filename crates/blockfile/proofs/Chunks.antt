@@ -1,5 +1,5 @@
 -- The chunks of a list, and the bytes of a block and of a record.
-use Rattle.std.proofs.Common.{◌≡◌, ℕ, zero, suc, ◌+◌, ◌-◌, ◌*◌, ◌<◌, ◌≤◌, Bool, true, false, ◌↔◌, IsTrue, List, length, get_or, take, drop, slice_index, refl, ap, sym, subst, zero-add, ◌∙◌, arith}
+use Rattle.std.proofs.Common.{◌≡◌, ℕ, zero, suc, ◌+◌, ◌-◌, ◌*◌, ◌<◌, ◌≤◌, Bool, true, false, ◌↔◌, IsTrue, List, length, get_or, take, drop, refl, ap, sym, subst, zero-add, ◌∙◌, arith}
 use Rattle.std.specs.List.{All, AllWithin, HoldsAt, range_with_len}
 use Rattle.std.specs.Bool.{MatchBool}
 use Rattle.std.proofs.lemmas.List.{drop-drop, drop-take, take-take, get_or-take, get_or-drop, length-take, length-drop}
@@ -7,14 +7,14 @@ use Rattle.std.proofs.lemmas.List.Elements.{All-get_or, All-from_get_or}
 use Rattle.std.proofs.lemmas.List.FromFn.{get_or-range_with_len, length-range_with_len}
 use Rattle.std.specs.Simd.{first_chunks}
 use Rattle.standpoint.specs.Lists.{Tells}
-use Rattle.blockfile.specs.Layout.{big4, block_of, record_of, code_of, Zeros, Tails}
+use Rattle.blockfile.specs.Layout.{big4, block_of, record_of, code_of, Zeros, Tail, Tails}
 
 pub tells : (b : Bool) (P : Type 0) → IsTrue b ↔ P → Tells b P
 tells true P e = e.0 refl
 tells false P e = λ p. let z : ◌≡◌ {A = Bool} false true = e.1 p in cc
 
 pub chunk_at : {A : Type 0} (n k i : ℕ) (xs : List A) (d : List A) → i < k → get_or (first_chunks n k xs) i d ≡ take n (drop (n * i) xs)
-chunk_at n zero i xs d h = absurd (let z : ⊥ = omega arith in z)
+chunk_at n zero i xs d h = absurd (omega arith)
 chunk_at n (suc k) zero xs d h = let e : n * 0 ≡ 0 = omega arith in rw e refl
 chunk_at n (suc k) (suc i) xs d h =
     let e : n + n * i ≡ n * suc i = omega arith in
@@ -60,10 +60,6 @@ zeros xs i j l =
           ap (λ n. get_or xs n 0) (sym e) ∙ sym (at (k - i) (omega arith)) ∙ All-get_or (λ x. x ≡ 0) part (k - i) 0 (omega (arith, long)) all,
       λ z. All-from_get_or (λ x. x ≡ 0) part 0 (λ k h. at k (omega (arith, long)) ∙ z (i + k) (omega arith) (omega (arith, long))),
     )
-
--- the last two bytes of record r of a block are 0
-abbrev pub Tail : List ℕ → ℕ → Type 0
-Tail block r = (slice_index block (18 + 12 * r) ≡ 0) × (slice_index block (19 + 12 * r) ≡ 0)
 
 nth_of : (n r : ℕ) → r < n → get_or (range_with_len 0 n) r 0 ≡ r
 nth_of n r lt = get_or-range_with_len 0 n r 0 lt ∙ zero-add r

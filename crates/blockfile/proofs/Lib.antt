@@ -1,4 +1,3 @@
 mod Accepting
 mod Chunks
-mod Errors
 mod Unsound

@@ -19,7 +19,7 @@ module _ {X : Type 0} (m : ℕ) (make : (n : ℕ) → n ≤ m → X) (n : ℕ) w
   unmade : (b : Bool) (e : leb n m ≡ b) (x : X) → made_by m make n b e ≡ Some x → (h : n ≤ m) × (x ≡ make n h)
   unfolding made_by
   unmade true e x is = (leb-true n m e, cc)
-  unmade false e x is = let z : ◌≡◌ {A = ℕ} 0 1 = cc in absurd (omega arith)
+  unmade false e x is = absurd (grind arith)
 
   pub bounded_only : (x : X) → bounded m make n ≡ Some x → (h : n ≤ m) × (x ≡ make n h)
   unfolding bounded

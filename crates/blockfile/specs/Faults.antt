@@ -57,4 +57,4 @@ abbrev pub FileChecked : ℕ → List ℕ → Result Sizes LoadFault → Type 0
 FileChecked letter file (Ok n) = Sound letter file × (n ≡ sizes_in file)
 FileChecked letter file (Err Length) = NotWhole file
 FileChecked letter file (Err (InBlock f)) =
-    FirstUnsound letter file f ⊎ (((n : ℕ) × (Whole file n × SoundBelow letter file n)) × SizesFaulty file f)
+    FirstUnsound letter file f ⊎ (((n : ℕ) × BlocksChecked letter file (Ok n)) × SizesFaulty file f)

@@ -39,9 +39,13 @@ pub record FirstFilled (block : List ℕ) : Type 0 where
   pub count : slice_index_or block 5 0 ≡ 0
   pub unused : Zeros block 12 508
 
--- the last two bytes of each of the first n records are 0
+-- the last two bytes of record r are 0
+abbrev pub Tail : List ℕ → ℕ → Type 0
+Tail block r = (slice_index block (18 + 12 * r) ≡ 0) × (slice_index block (19 + 12 * r) ≡ 0)
+
+-- so are those of each of the first n records
 abbrev pub Tails : List ℕ → ℕ → Type 0
-Tails block n = (r : ℕ) → r < n → (slice_index block (18 + 12 * r) ≡ 0) × (slice_index block (19 + 12 * r) ≡ 0)
+Tails block n = (r : ℕ) → r < n → Tail block r
 
 -- another block has at most 41 records, whose last two bytes are unused, and nothing after them
 pub record LaterFilled (block : List ℕ) : Type 0 where
@@ -49,13 +53,13 @@ pub record LaterFilled (block : List ℕ) : Type 0 where
   pub tails : Tails block (slice_index block 5)
   pub unused : Zeros block (8 + 12 * slice_index block 5) 508
 
-abbrev pub Filled : ℕ → List ℕ → Type 0
-Filled zero block = FirstFilled block
-Filled (suc n) block = LaterFilled block
+abbrev pub BlockFilled : ℕ → List ℕ → Type 0
+BlockFilled zero block = FirstFilled block
+BlockFilled (suc n) block = LaterFilled block
 
 -- all but the sum is as it has to be in the block of this number
 abbrev pub LaidOut : ℕ → ℕ → List ℕ → Type 0
-LaidOut letter number block = Headed letter number block × Filled number block
+LaidOut letter number block = Headed letter number block × BlockFilled number block
 
 abbrev pub SoundBlock : ℕ → ℕ → List ℕ → Type 0
 SoundBlock letter number block = Summed block × LaidOut letter number block

@@ -13,7 +13,7 @@ use Rattle.blockfile.specs.declared.fault.BlockFault.{BlockFault}
 use Rattle.blockfile.specs.declared.fault.BlockFault.TheVariants.{Sum, Layout, Begin, InRecord}
 use Rattle.blockfile.specs.declared.fault.LoadFault.{LoadFault}
 use Rattle.blockfile.specs.declared.fault.LoadFault.TheVariants.{Length, InBlock}
-use Rattle.blockfile.specs.Layout.{Whole, SoundBelow, count_in, code_of, statement_in, sizes_in}
+use Rattle.blockfile.specs.Layout.{count_in, code_of, statement_in, sizes_in}
 use Rattle.blockfile.specs.Faults.{BlocksChecked}
 
 -- statements with their grades, accepted in order
@@ -45,21 +45,21 @@ place_at (Code block place) = place
 place_at (Add block place why) = place
 
 -- why it does: its code is no grade, or the reasoner does not accept it
-abbrev pub Refused : {G : Type 0} → (ℕ → Option G) → List ℕ → Table G → RecordFault → Type 0
-Refused decoded file t (Code block place) = decoded (code_of file block place) ≡ None
-Refused {G} decoded file t (Add block place why) = (g : G) × (decoded (code_of file block place) ≡ Some g) × AddRefused t (statement_in file block place) why
+abbrev pub RecordRefused : {G : Type 0} → (ℕ → Option G) → List ℕ → Table G → RecordFault → Type 0
+RecordRefused decoded file t (Code block place) = decoded (code_of file block place) ≡ None
+RecordRefused {G} decoded file t (Add block place why) = (g : G) × (decoded (code_of file block place) ≡ Some g) × AddRefused t (statement_in file block place) why
 
 -- the record is there, all before it are accepted, and it is refused
 pub record StoppedAt {G : Type 0} (a : Algebra G) (decoded : ℕ → Option G) (file : List ℕ) (t : Table G) (f : RecordFault) : Type 0 where
   pub there : place_at f < count_in file (block_at f)
   pub before : AcceptsBefore a decoded file (block_at f) (place_at f) t
-  pub refused : Refused decoded file t f
+  pub refused : RecordRefused decoded file t f
 
 -- one record: accepted with its grade, or refused
 abbrev pub RecordLoaded : {G : Type 0} → Algebra G → (ℕ → Option G) → List ℕ → ℕ → ℕ → Table G → Table G → Result (Unit {0}) RecordFault → Type 0
 RecordLoaded {G} a decoded file b p s t (Ok _) =
     (g : G) × (decoded (code_of file b p) ≡ Some g) × ((base : Base G) → StandsFor a (based base) s → StandsFor a (based (accepting base (statement_in file b p) g)) t)
-RecordLoaded a decoded file b p s t (Err f) = Unchanged s t × (block_at f ≡ b) × (place_at f ≡ p) × Refused decoded file t f
+RecordLoaded a decoded file b p s t (Err f) = Unchanged s t × (block_at f ≡ b) × (place_at f ≡ p) × RecordRefused decoded file t f
 
 -- one block: all of its records are accepted, or one stops the load
 abbrev pub BlockLoaded : {G : Type 0} → Algebra G → (ℕ → Option G) → List ℕ → ℕ → Table G → Result (Unit {0}) BlockFault → Type 0
@@ -79,11 +79,11 @@ Sized a file s t (Err (Layout block)) = ⊥
 
 -- the whole file: first every block is checked, then the reasoner begins, then the records are accepted in order
 abbrev pub Loaded : {G : Type 0} → Algebra G → ℕ → (ℕ → Option G) → List ℕ → Table G → Table G → Result (Unit {0}) LoadFault → Type 0
-Loaded a letter decoded file s t (Ok _) = (n : ℕ) × (Whole file n × SoundBelow letter file n) × AcceptsBefore a decoded file n 0 t
+Loaded a letter decoded file s t (Ok _) = (n : ℕ) × BlocksChecked letter file (Ok n) × AcceptsBefore a decoded file n 0 t
 Loaded a letter decoded file s t (Err Length) = Unchanged s t × BlocksChecked letter file (Err Length)
 Loaded a letter decoded file s t (Err (InBlock (Sum block))) = Unchanged s t × BlocksChecked letter file (Err (InBlock (Sum block)))
 Loaded a letter decoded file s t (Err (InBlock (Layout block))) = Unchanged s t × BlocksChecked letter file (Err (InBlock (Layout block)))
 Loaded a letter decoded file s t (Err (InBlock (Begin why))) =
-    ((n : ℕ) × (Whole file n × SoundBelow letter file n)) × Begun a (sizes_in file) s t (Err why)
+    ((n : ℕ) × BlocksChecked letter file (Ok n)) × Begun a (sizes_in file) s t (Err why)
 Loaded a letter decoded file s t (Err (InBlock (InRecord f))) =
-    (n : ℕ) × (Whole file n × SoundBelow letter file n) × (block_at f < n) × StoppedAt a decoded file t f
+    (n : ℕ) × BlocksChecked letter file (Ok n) × (block_at f < n) × StoppedAt a decoded file t f

@@ -1,5 +1,5 @@
 -- Two states of a table that differ in marks alone.
-use Rattle.std.proofs.Common.{◌≡◌, ℕ, ◌<◌, ◌≤◌, Bool, List, length, get_or, sym, refl, ap, ◌∙◌, subst, ⊎_elim, arith, length-set}
+use Rattle.std.proofs.Common.{◌≡◌, ℕ, ◌+◌, ◌<◌, ◌≤◌, Bool, List, length, get_or, sym, refl, ap, ◌∙◌, subst, ⊎_elim, arith, length-set}
 use Rattle.std.proofs.lemmas.List.{get_or-set_same, get_or-set_other, ext_get_or}
 use Rattle.standpoint.specs.declared.statement.Statement.{Statement}
 use Rattle.standpoint.specs.declared.step.Step.{Step}
@@ -10,7 +10,7 @@ use Rattle.saturation.specs.Rows.{no_row}
 use Rattle.saturation.specs.Tables.{State, row_at, statement_at, turn_at}
 use Rattle.saturation.specs.Searching.{Premise}
 use Rattle.saturation.proofs.Offers.{equal_or, below_or}
-use Rattle.explanation.specs.Needed.{kept_at, Names, Rests, rank, Renumbers, Written}
+use Rattle.explanation.specs.Needed.{kept_at, Names, Rests, rank, Renumbers, ChosenWritten}
 use Rattle.explanation.specs.Marks.{mark_at, remarked, with_mark, Clean, ButMarks}
 
 module _ {G : Type 0} where
@@ -48,7 +48,7 @@ module _ {G : Type 0} where
           (λ e. subst (λ (i : ℕ). row_at (with_mark s k b) i ≡ remarked (row_at s i) (mark_at (with_mark s k b) i)) (sym e) (row_here ∙ ap (remarked (row_at s k)) (sym mark_here)))
           (λ ne. row_there j ne ∙ ap (remarked (row_at s j)) (sym (mark_there j ne)))
           (equal_or j k);
-      above = λ j le. row_there j (λ e. let z : ⊥ = omega arith in z);
+      above = λ j le. row_there j (λ e. omega arith);
     }
 
   module _ (s u : State G) (b : ButMarks s u) where
@@ -59,10 +59,10 @@ module _ {G : Type 0} where
     kept_same k = ap (λ (j : ℕ). (row_at u j).kept) (turn_same k) ∙ ap (λ (r : Row). r.kept) (b.each (turn_at s k))
 
     pub rests_same : (k j : ℕ) → Rests u k j → Rests s k j
-    rests_same k j r = subst (λ (v : Kept). Names v j) (kept_same k) r
+    rests_same k j r = subst (λ (v : Kept). Names v (j + 1)) (kept_same k) r
 
     pub rests_back : (k j : ℕ) → Rests s k j → Rests u k j
-    rests_back k j r = subst (λ (v : Kept). Names v j) (sym (kept_same k)) r
+    rests_back k j r = subst (λ (v : Kept). Names v (j + 1)) (sym (kept_same k)) r
 
     premise_same : (k : ℕ) (p : Statement × G) → Premise u k p → Premise s k p
     premise_same k p r =
@@ -83,7 +83,7 @@ module _ {G : Type 0} where
         }
 
     -- what is written does not depend on the marks
-    pub written_same : (m : ℕ → Bool) (n : ℕ) (old new : List (Step G)) → Written u m n old new → Written s m n old new
+    pub written_same : (m : ℕ → Bool) (n : ℕ) (old new : List (Step G)) → ChosenWritten u m n old new → ChosenWritten s m n old new
     written_same m n old new w = record { long = w.long; each = λ k h t d. renumbers_same m k (get_or new (rank m k) d) (w.each k h t d); rest = w.rest }
 
     -- with all marks taken back the table is as it was

@@ -1,5 +1,5 @@
 -- In a run no kept step rests on one that was not settled earlier.
-use Rattle.std.proofs.Common.{◌≡◌, ℕ, zero, suc, ◌+◌, ◌<◌, ◌≤◌, List, [], ◌∷◌, length, get_or, take, sym, ap, ◌∙◌, ⊎_elim, arith, length-take}
+use Rattle.std.proofs.Common.{◌≡◌, ℕ, zero, suc, ◌+◌, ◌<◌, ◌≤◌, true, List, [], ◌∷◌, length, get_or, take, sym, ap, ◌∙◌, ⊎_elim, arith, length-take}
 use Rattle.standpoint.specs.declared.statement.Statement.{Statement}
 use Rattle.standpoint.specs.Algebra.{Algebra}
 use Rattle.standpoint.specs.Derivations.{Base}
@@ -7,20 +7,20 @@ use Rattle.saturation.specs.declared.row.Kept.{Kept}
 use Rattle.saturation.specs.Tables.{State}
 use Rattle.saturation.specs.Places.{StandAt, place_or, KeptRight, kept_accepted, kept_tautology, kept_step}
 use Rattle.saturation.specs.Offering.{Explained}
-use Rattle.explanation.specs.Needed.{kept_at, Names, Rests, Needed, itself, below, Founded}
+use Rattle.explanation.specs.Needed.{kept_at, Names, RestsEarlier, Needed, itself, below, Founded}
 
 -- a place of a rule's premises is within the list that they stand in
 place_low : {X : Type 0} (xs : List X) (places : List ℕ) (premises : List X) → StandAt xs places premises → (n j : ℕ) → place_or places n ≡ j + 1 → j < length xs
-place_low xs [] premises st n j e = absurd (let z : ⊥ = omega arith in z)
+place_low xs [] premises st n j e = absurd (omega arith)
 place_low xs (i ∷ is) [] st n j e = absurd st
 place_low xs (i ∷ is) (p ∷ ps) st zero j e = let h = st.0.0 in omega arith
 place_low xs (i ∷ is) (p ∷ ps) st (suc n) j e = place_low xs is ps st.1 n j e
 
 module _ {G : Type 0} (a : Algebra G) (base : Base G) (l : List (Statement × G)) where
-  none_named : (kept : Kept) (j : ℕ) → kept.first ≡ 0 → kept.second ≡ 0 → kept.third ≡ 0 → Names kept j → ⊥
+  none_named : (kept : Kept) (j : ℕ) → kept.first ≡ 0 → kept.second ≡ 0 → kept.third ≡ 0 → Names kept (j + 1) → ⊥
   none_named kept j z1 z2 z3 = ⊎_elim (λ f. omega arith) (⊎_elim (λ f. omega arith) (λ f. omega arith))
 
-  named_earlier : (k : ℕ) (o : Statement × G) (kept : Kept) → KeptRight a base (take k l) o kept → (j : ℕ) → Names kept j → j < k
+  named_earlier : (k : ℕ) (o : Statement × G) (kept : Kept) → KeptRight a base (take k l) o kept → (j : ℕ) → Names kept (j + 1) → j < k
   named_earlier k o kept (kept_accepted e m) j r = absurd (none_named kept j (ap (λ (x : Kept). x.first) e) (ap (λ (x : Kept). x.second) e) (ap (λ (x : Kept). x.third) e) r)
   named_earlier k o kept (kept_tautology e t g) j r = absurd (none_named kept j (ap (λ (x : Kept). x.first) e) (ap (λ (x : Kept). x.second) e) (ap (λ (x : Kept). x.third) e) r)
   named_earlier k o kept (kept_step rule places e step) j r =
@@ -31,7 +31,7 @@ module _ {G : Type 0} (a : Algebra G) (base : Base G) (l : List (Statement × G)
       r
 
   module _ (s : State G) (ex : Explained a base l s) (t : ℕ) (o : Statement × G) (within : t < length l) where
-    earlier : (k : ℕ) → k < length l → (j : ℕ) → Rests s k j → j < k
+    earlier : (k : ℕ) → k < length l → RestsEarlier s k true
     earlier k h j r = named_earlier k (get_or l k o) (kept_at s k) (ex k h o) j r
 
     needed_low : {k : ℕ} → Needed s t k → k ≤ t

@@ -1,45 +1,44 @@
 -- Marking all that a settled statement rests on.
-use Rattle.std.proofs.Common.{◌≡◌, ℕ, ◌+◌, ◌-◌, ◌<◌, ◌≤◌, max, Bool, true, false, leb, ◌⊎◌, length, sym, refl, ◌∙◌, subst, inl, inr, ⊎_elim, arith, leb-false, leb-true}
+use Rattle.std.proofs.Common.{◌≡◌, ℕ, ◌+◌, ◌-◌, ◌<◌, ◌≤◌, max, Bool, true, false, leb, length, sym, refl, ◌∙◌, subst, inl, inr, ⊎_elim, arith, leb-false, leb-true}
 use borrow.Author.Tests.{both_ways}
 use Rattle.saturation.specs.declared.row.Kept.{Kept}
 use Rattle.saturation.specs.declared.table.Table.{Table}
 use Rattle.saturation.specs.Tables.{State, view, Same}
 use Rattle.saturation.proofs.Offers.{equal_or}
 use Rattle.saturation.proofs.Sameness.{same_then}
-use Rattle.explanation.specs.Needed.{kept_at, Names, Rests, Needed, itself, below, Founded, Unfounded, Chooses}
-use Rattle.explanation.specs.Marks.{mark_at, with_mark, Clean, ButMarks, AddsMarks, RestsEarlier, MarksFounded, MarksDown}
+use Rattle.explanation.specs.Needed.{kept_at, Names, Rests, RestsEarlier, Needed, itself, below, Founded, Unfounded, Chooses}
+use Rattle.explanation.specs.Marks.{mark_at, with_mark, Clean, ButMarks, AddsMarks, MarksFounded, MarksDown}
 use Rattle.explanation.proofs.ButMarks.{but_marks_trans, but_one_mark, mark_here, mark_there, rests_same, rests_back}
 
--- one of three places
-abbrev pub OneOf : Kept → ℕ → Type 0
-OneOf kept p = (p ≡ kept.first) ⊎ ((p ≡ kept.second) ⊎ (p ≡ kept.third))
-
-names_one : (kept : Kept) (p j : ℕ) → p ≡ j + 1 → OneOf kept p → Names kept j
-names_one kept p j e = ⊎_elim (λ f. inl (sym f ∙ e)) (⊎_elim (λ f. inr (inl (sym f ∙ e))) (λ f. inr (inr (sym f ∙ e))))
+-- a place that is not 0 is that of a settled statement
+rests_on : {G : Type 0} (s : State G) (k p : ℕ) (kept : Kept) → kept ≡ kept_at s k → 0 < p → Names kept p → Rests s k (p - 1)
+rests_on s k p kept is some named =
+    let place : p ≡ p - 1 + 1 = omega arith in
+    subst (λ (w : Kept). Names w (p - 1 + 1)) is (subst (Names kept) place named)
 
 -- the latest place that a step names decides whether it names earlier ones alone
 pub rests_told : {G : Type 0} (s : State G) (k p : ℕ) (kept : Kept) → kept ≡ kept_at s k → p ≡ max (max kept.first kept.second) kept.third → RestsEarlier s k (leb p k)
 rests_told s k p kept is latest = go (leb p k) refl
   where
-    one_of : OneOf kept p
-    one_of = ⊎_elim (λ e. inr (inr e)) (λ ne. ⊎_elim (λ e. inr (inl e)) (λ ne2. inl (omega arith)) (equal_or p kept.second)) (equal_or p kept.third)
+    named : Names kept p
+    named = ⊎_elim (λ e. inr (inr e)) (λ ne. ⊎_elim (λ e. inr (inl e)) (λ ne2. inl (omega arith)) (equal_or kept.second p)) (equal_or kept.third p)
 
     go : (b : Bool) → leb p k ≡ b → RestsEarlier s k b
     go true e =
         let low = leb-true p k e in
-        subst (λ (w : Kept). (j : ℕ) → Names w j → j < k) is
+        subst (λ (w : Kept). (j : ℕ) → Names w (j + 1) → j < k) is
         (λ j. ⊎_elim (λ f. omega arith) (⊎_elim (λ f. omega arith) (λ f. omega arith)))
     go false e =
         let high = leb-false p k e in
-        (p - 1, subst (λ (w : Kept). Names w (p - 1)) is (names_one kept p (p - 1) (omega arith) one_of), omega arith)
+        (p - 1, rests_on s k p kept is (omega arith) named, omega arith)
 
 -- a place of a step that rests on earlier ones alone
-pub place_within : {G : Type 0} (s : State G) (k p n : ℕ) (kept : Kept) → kept ≡ kept_at s k → ((j : ℕ) → Rests s k j → j < k) → k < n → OneOf kept p → p ≤ n
+pub place_within : {G : Type 0} (s : State G) (k p n : ℕ) (kept : Kept) → kept ≡ kept_at s k → RestsEarlier s k true → k < n → Names kept p → p ≤ n
 place_within s k p n kept is all h which =
     ⊎_elim
     (λ z. omega arith)
     (λ some.
-    let low = all (p - 1) (subst (λ (w : Kept). Names w (p - 1)) is (names_one kept p (p - 1) (omega arith) which)) in
+    let low = all (p - 1) (rests_on s k p kept is (omega arith) which) in
     omega arith)
     (equal_or p 0)
 
@@ -54,14 +53,6 @@ module _ {G : Type 0} where
         only = λ j m. ⊎_elim (λ i. inr (omega arith)) (λ ne. inl (sym (mark_there s k true h fit j ne) ∙ m)) (equal_or j k);
       })
 
-  adds_then : (s t u : State G) (A B : ℕ → Type 0) → AddsMarks s t A → AddsMarks t u B → AddsMarks s u (λ j. A j ⊎ B j)
-  adds_then s t u A B a b = record {
-    but_marks = but_marks_trans s t u a.but_marks b.but_marks;
-    old = λ j m. b.old j (a.old j m);
-    new = λ j. ⊎_elim (λ x. b.old j (a.new j x)) (λ y. b.new j y);
-    only = λ j m. ⊎_elim (λ x. ⊎_elim (λ y. inl y) (λ y. inr (inl y)) (a.only j x)) (λ y. inr (inr y)) (b.only j m);
-  }
-
   -- the loop
   marks_start : (s u : State G) (t : ℕ) → t < s.settled → s.settled ≤ length s.rows → Clean s → u ≡ with_mark s t true → MarksDown s u t 0
   marks_start s u t h fit clean e =
@@ -70,7 +61,7 @@ module _ {G : Type 0} where
         but_marks = a.but_marks;
         own = a.new t refl;
         sound = λ j lt m. ⊎_elim (λ x. absurd (both_ways (mark_at s j) (clean j lt) x)) (λ i. let f : t ≡ j = omega arith in (subst (Needed s t) f itself, omega arith)) (a.only j m);
-        closed = λ q le lt. absurd (let x : ⊥ = omega arith in x);
+        closed = λ q le lt. absurd (omega arith);
       }
 
   marks_skip : (s u : State G) (t i k : ℕ) → k + i ≡ t → mark_at u k ≡ false → MarksDown s u t i → MarksDown s u t (i + 1)
@@ -98,7 +89,7 @@ module _ {G : Type 0} where
             (omega arith, a.new j r'))
             (λ ne. ⊎_elim
             (λ y. let c = p.closed q le (omega arith) y j r in (c.0, a.old j c.1))
-            (λ y. let low = early q y in absurd (let z : ⊥ = omega arith in z))
+            (λ y. let low = early q y in absurd (omega arith))
             (a.only q x))
             (equal_or q k);
       }

@@ -1,34 +1,24 @@
 -- What an explanation means over a run.
-use Rattle.std.proofs.Common.{◌≡◌, ℕ, zero, suc, ◌+◌, ◌<◌, ◌≤◌, List, [], ◌∷◌, length, take, Ok, Err, Result, sym, refl, ap, ◌∙◌, subst, arith}
-use borrow.Author.Tests.{both_ways}
+use Rattle.std.proofs.Common.{◌≡◌, ℕ, ◌+◌, ◌<◌, ◌≤◌, List, length, take, Ok, Err, Result, sym, ap, ◌∙◌, subst, arith}
 use Rattle.standpoint.specs.declared.refusal.Refusal.{Refusal}
-use Rattle.standpoint.specs.declared.sizes.Sizes.{Sizes}
 use Rattle.standpoint.specs.declared.statement.Statement.{Statement}
 use Rattle.standpoint.specs.declared.step.Step.{Step}
 use Rattle.standpoint.specs.Lists.{StandsAt}
 use Rattle.standpoint.specs.Algebra.{Algebra, Laws}
-use Rattle.standpoint.specs.Statements.{Fits, contradiction}
-use Rattle.standpoint.specs.Derivations.{Base, Derives}
-use Rattle.standpoint.proofs.Derived.{contradiction_underivable}
+use Rattle.standpoint.specs.Derivations.{Base}
 use Rattle.standpoint.proofs.Lists.{in_stands}
 use Rattle.runs.specs.Runs as runs
 use Rattle.runs.specs.Runs.{Settled}
-use Rattle.runs.proofs.Best.{settled_is_best}
 use Rattle.saturation.specs.declared.table.Table.{Table}
-use Rattle.saturation.specs.Phases.{is_begun, sizes_of}
 use Rattle.saturation.specs.Tables.{view}
-use Rattle.reasoner.proofs.Holding.{Held}
+use Rattle.saturation.proofs.Stepping.{stands_in, value_at}
+use Rattle.reasoner.proofs.Holding.{Held, refused_misfit}
+use Rattle.reasoner.proofs.Saying.{says_settled}
 use Rattle.explanation.specs.Explaining.{NoneBelow, FirstSettled, NotFound, NotWritten, NotExplained, Explains, Explanation, Unexplained, ExplainsAs, WritesNeeded}
-use Rattle.explanation.specs.Explaining.NotFound.{before_begin, misfit, not_settled}
+use Rattle.explanation.specs.Explaining.NotFound.{not_askable, not_settled}
 use Rattle.explanation.proofs.Ranks.{rank_most}
 use Rattle.explanation.proofs.Foundings.{explained_founded}
-use Rattle.explanation.proofs.RightSteps.{stands_in, written_passes}
-
--- what stands at a place within a list
-stands_some : {X : Type 0} (xs : List X) (k : ℕ) → k < length xs → (x : X) × StandsAt xs k x
-stands_some [] k h = absurd (let z : ⊥ = omega arith in z)
-stands_some (x ∷ xs) zero h = (x, (h, λ d. refl))
-stands_some (x ∷ xs) (suc k) h = let p = stands_some xs k (omega arith) in (p.0, (h, p.1.1))
+use Rattle.explanation.proofs.RightSteps.{written_passes}
 
 module _ {G : Type 0} (a : Algebra G) (laws : Laws a) (b : Base G) (l : Settled G) (s : Table G) (h : Held a b s l) (x : Statement) where
   -- the settled statement with its grade
@@ -36,10 +26,11 @@ module _ {G : Type 0} (a : Algebra G) (laws : Laws a) (b : Base G) (l : Settled 
   settled_so t at =
       let lg = h.lists.long in
       let lt = at.within in
-      let p = stands_some l t (omega arith) in
+      let within : t < length l = omega arith in
+      let p = value_at l t within in
       let o = p.0 in
-      let same : o.0 ≡ x = sym (ap (λ (v : Statement × G). v.0) (p.1.1 o)) ∙ sym (h.lists.holds t at.within o).0 ∙ at.holds in
-      (o.1, subst (λ (y : Statement). StandsAt l t (y, o.1)) same p.1)
+      let same : o.0 ≡ x = sym (ap (λ (v : Statement × G). v.0) (p.1 o)) ∙ sym (h.lists.holds t at.within o).0 ∙ at.holds in
+      (o.1, subst (λ (y : Statement). StandsAt l t (y, o.1)) same (within, p.1))
 
   none_settled : NoneBelow (view s) x s.settled → runs.Unsettled l x
   none_settled none g m =
@@ -49,19 +40,15 @@ module _ {G : Type 0} (a : Algebra G) (laws : Laws a) (b : Base G) (l : Settled 
       let within : p.0 < s.settled = omega arith in
       none p.0 within ((h.lists.holds p.0 within (x, g)).0 ∙ ap (λ (v : Statement × G). v.0) (p.1.1 (x, g)))
 
-  fits_here : Fits b.sizes x → Fits (sizes_of s.phase) x
-  fits_here f = subst (λ (n : Sizes). Fits n x) (sym h.sizes) f
-
   unfound_means : (room : ℕ) {e : Refusal} → NotFound s x e → Unexplained b l x room e
-  unfound_means room (before_begin off) = absurd (both_ways (is_begun s.phase) off h.begun)
-  unfound_means room (misfit begun unfit) = Unexplained.does_not_fit (λ f. unfit (fits_here f))
+  unfound_means room (not_askable refused) = let unfit = refused_misfit h x refused in rw unfit.0 (Unexplained.does_not_fit unfit.1)
   unfound_means room (not_settled asked none) = Unexplained.unsettled (none_settled none)
 
   unwritten_means : (room t : ℕ) → FirstSettled (view s) x t → {e : Refusal} → NotWritten (view s) t room e → Unexplained b l x room e
   unwritten_means room t at (NotWritten.rests_on_later (k, n, (j, r, le))) =
       let o = settled_so t at in
       let lt = explained_founded a b l (view s) h.explained t (x, o.0) o.1.0 k n j r in
-      absurd (let z : ⊥ = omega arith in z)
+      absurd (omega arith)
   unwritten_means room t at (NotWritten.too_short m chooses founded short) =
       let o = settled_so t at in
       let most = rank_most m (t + 1) in
@@ -72,9 +59,6 @@ module _ {G : Type 0} (a : Algebra G) (laws : Laws a) (b : Base G) (l : Settled 
   refusal_means room (NotExplained.not_found why) = unfound_means room why
   refusal_means room (NotExplained.not_written asked t at why) = unwritten_means room t at why
 
-  excluded : (g : G) → Derives a b x g → x ≡ contradiction → Derives a b contradiction g
-  excluded g d e = subst (λ (y : Statement). Derives a b y g) e d
-
   writing_means : (t : ℕ) (old new : List (Step G)) (count : ℕ) → FirstSettled (view s) x t → WritesNeeded (view s) t old new count → (count ≤ length l) × Explanation a b l x (take count new)
   writing_means t old new count at w =
       let o = settled_so t at in
@@ -83,16 +67,14 @@ module _ {G : Type 0} (a : Algebra G) (laws : Laws a) (b : Base G) (l : Settled 
       let most = rank_most w.chosen (t + 1) in
       let is = w.counts in
       let rm = w.room in
-      let member = stands_in l t (x, g) o.1 in
-      let best = settled_is_best a laws b l h.run x g member in (
+      let said = says_settled a b s laws h x g (stands_in l t (x, g) o.1) in (
         omega arith,
         record {
           grade = g;
-          settled = member;
+          settled = said.0;
           passes = written_passes a b h.in_range l h.run (view s) h.lists h.explained t at.within w.chosen w.chooses w.founded old new (omega arith) w.written (x, g) o.1 count w.counts;
-          derived = best.0;
-          best = best.1;
-          excludes = λ e M met. contradiction_underivable a b h.in_range M met (excluded g best.0 e);
+          best = said.1;
+          excludes = said.2;
         },
       )
 

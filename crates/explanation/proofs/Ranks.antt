@@ -43,7 +43,7 @@ module _ (m : ℕ → Bool) where
 
   -- the chosen one that has this rank
   pub unrank : (b n : ℕ) → n < rank m b → (k : ℕ) × (k < b) × (m k ≡ true) × (rank m k ≡ n)
-  unrank zero n h = absurd (let z : ⊥ = omega arith in z)
+  unrank zero n h = absurd (omega arith)
   unrank (suc b) n h =
       ⊎_elim
       (λ lt. let r = unrank b n lt in let q = r.1 in (r.0, omega arith, r.2, r.3))
@@ -52,7 +52,7 @@ module _ (m : ℕ → Bool) where
     where
       here : (x : Bool) → m b ≡ x → rank m b ≤ n → (k : ℕ) × (k < suc b) × (m k ≡ true) × (rank m k ≡ n)
       here true e ge = let f : one_if (m b) ≡ one_if true = ap one_if e in (b, omega arith, e, omega arith)
-      here false e ge = let f : one_if (m b) ≡ one_if false = ap one_if e in absurd (let z : ⊥ = omega arith in z)
+      here false e ge = let f : one_if (m b) ≡ one_if false = ap one_if e in absurd (omega arith)
 
 -- how many of the first rows are marked
 pub count_ranks : (rows : List Row) (k : ℕ) → k ≤ length rows → length (filter (λ (r : Row). r.mark) (take k rows)) ≡ rank (λ j. (get_or rows j no_row).mark) k

@@ -3,7 +3,7 @@ use Rattle.std.proofs.Common.{◌≡◌, ℕ, ◌+◌, ◌-◌, ◌<◌, ◌≤�
 use Rattle.std.proofs.lemmas.List.{get_or_default, get_or-take, length-take-le}
 use Rattle.standpoint.specs.declared.statement.Statement.{Statement}
 use Rattle.standpoint.specs.declared.step.Step.{Step}
-use Rattle.standpoint.specs.Lists.{In, StandsAt}
+use Rattle.standpoint.specs.Lists.{StandsAt}
 use Rattle.standpoint.specs.Sizes.{InRange}
 use Rattle.standpoint.specs.Algebra.{Algebra}
 use Rattle.standpoint.specs.Rules.{Rule}
@@ -12,7 +12,6 @@ use Rattle.standpoint.specs.Steps.{given, Earlier, Agrees, by_acceptance, by_tau
 use Rattle.standpoint.specs.Verdicts.{Passes}
 use Rattle.standpoint.proofs.Arities.{few_premises}
 use Rattle.standpoint.proofs.Derived.{derived_fits}
-use Rattle.standpoint.proofs.Lists.{in_getD}
 use Rattle.runs.specs.Runs.{Settled, Run}
 use Rattle.runs.proofs.Offers.{settled_derives}
 use Rattle.saturation.specs.declared.row.Kept.{Kept}
@@ -21,11 +20,9 @@ use Rattle.saturation.specs.Places.{StandAt, statements_of, grades_of, joined, k
 use Rattle.saturation.specs.Offering.{Explained}
 use Rattle.saturation.specs.Searching.{Lists}
 use Rattle.saturation.proofs.Lists.{premise_at, stands_same}
-use Rattle.explanation.specs.Needed.{kept_at, Rests, Needed, itself, below, Founded, rank, Chooses, Renumbers, Written}
+use Rattle.saturation.proofs.Stepping.{stands_in}
+use Rattle.explanation.specs.Needed.{kept_at, Rests, Needed, itself, below, Founded, rank, Chooses, Renumbers, ChosenWritten}
 use Rattle.explanation.proofs.Ranks.{rank_taken, rank_below, unrank}
-
-pub stands_in : {X : Type 0} (xs : List X) (k : ℕ) (x : X) → StandsAt xs k x → In xs x
-stands_in xs k x at = subst (In xs) (at.1 x) (in_getD xs k x at.0)
 
 -- the front of a list of right steps
 module _ {G : Type 0} (a : Algebra G) (base : Base G) (xs : List (Step G)) (count : ℕ) (room : count ≤ length xs) where
@@ -48,7 +45,7 @@ module _ {G : Type 0} (a : Algebra G) (base : Base G) (xs : List (Step G)) (coun
 
 module _ {G : Type 0} (a : Algebra G) (base : Base G) (range : InRange base.sizes) (l : Settled G) (run : Run a base l) (s : State G) (lists : Lists s l) (ex : Explained a base l s)
     (t : ℕ) (within : t < s.settled) (m : ℕ → Bool) (chooses : Chooses s t m) (founded : Founded s t)
-    (old new : List (Step G)) (room : rank m (t + 1) ≤ length old) (w : Written s m (t + 1) old new) where
+    (old new : List (Step G)) (room : rank m (t + 1) ≤ length old) (w : ChosenWritten s m (t + 1) old new) where
   -- what is written for k was settled as the k-th
   settled_there : (k : ℕ) → k ≤ t → (v : Step G) → Renumbers s m k v → StandsAt l k (given v)
   settled_there k h v wr = premise_at s l k (given v) lists (omega arith) wr.gives
@@ -85,7 +82,7 @@ module _ {G : Type 0} (a : Algebra G) (base : Base G) (range : InRange base.size
     -- a rule over premises that stand among those settled before
     rule_agrees : (rule : ℕ) (places : List ℕ) (premises : List (Statement × G)) → kept_at s k ≡ kept_of rule places → StandAt (take k l) places premises →
         Rule base.sizes.individuals v.rule (statements_of premises) v.statement → v.grade ≡ joined a (grades_of premises) → Agrees a base new (rank m k) v
-    rule_agrees rule [] [] e st gives grade = let h = few_premises gives in absurd (let z : ⊥ = omega arith in z)
+    rule_agrees rule [] [] e st gives grade = let h = few_premises gives in absurd (omega arith)
     rule_agrees rule [] (p ∷ ps) e st gives grade = absurd st
     rule_agrees rule (i ∷ is) [] e st gives grade = absurd st
     rule_agrees rule (i ∷ []) (p ∷ []) e st gives grade =
@@ -117,7 +114,7 @@ module _ {G : Type 0} (a : Algebra G) (base : Base G) (range : InRange base.size
         by_three u.step x.step y.step (earlier_line v.first i p (wr.first ∙ ap (rank m) e1) u) (earlier_line v.second j q (wr.second ∙ ap (rank m) e2) x) (earlier_line v.third h r (wr.third ∙ ap (rank m) e3) y) by.0 by.1
     rule_agrees rule (i ∷ j ∷ h ∷ []) (p ∷ q ∷ r ∷ o ∷ ps) e st gives grade = absurd st.1.1.1
     rule_agrees rule (i ∷ j ∷ h ∷ f ∷ is) (p ∷ q ∷ r ∷ []) e st gives grade = absurd st.1.1.1
-    rule_agrees rule (i ∷ j ∷ h ∷ f ∷ is) (p ∷ q ∷ r ∷ o ∷ ps) e st gives grade = let few = few_premises gives in absurd (let z : ⊥ = omega arith in z)
+    rule_agrees rule (i ∷ j ∷ h ∷ f ∷ is) (p ∷ q ∷ r ∷ o ∷ ps) e st gives grade = let few = few_premises gives in absurd (omega arith)
 
     step_agrees : KeptRight a base (take k l) (given v) (kept_at s k) → Agrees a base new (rank m k) v
     step_agrees (kept_accepted e mem) =

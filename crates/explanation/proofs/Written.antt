@@ -5,11 +5,11 @@ use Rattle.std.proofs.lemmas.List.{get_or-set_same, get_or-set_other}
 use Rattle.standpoint.specs.declared.step.Step.{Step}
 use Rattle.saturation.specs.Tables.{State}
 use Rattle.saturation.proofs.Offers.{last_or}
-use Rattle.explanation.specs.Needed.{rank, Renumbers, Written}
+use Rattle.explanation.specs.Needed.{rank, Renumbers, ChosenWritten}
 use Rattle.explanation.proofs.Ranks.{rank_taken, rank_left, rank_below}
 
 module _ {G : Type 0} (s : State G) (m : ℕ → Bool) (old : List (Step G)) where
-  write_skip : (k : ℕ) (b : List (Step G)) → m k ≡ false → Written s m k old b → Written s m (k + 1) old b
+  write_skip : (k : ℕ) (b : List (Step G)) → m k ≡ false → ChosenWritten s m k old b → ChosenWritten s m (k + 1) old b
   write_skip k b e w =
       let r = rank_left m k e in
       record {
@@ -18,7 +18,7 @@ module _ {G : Type 0} (s : State G) (m : ℕ → Bool) (old : List (Step G)) whe
         rest = λ i h d. w.rest i (omega arith) d;
       }
 
-  write_more : (k : ℕ) (b : List (Step G)) (v : Step G) → m k ≡ true → rank m k < length old → Renumbers s m k v → Written s m k old b → Written s m (k + 1) old (set b (rank m k) v)
+  write_more : (k : ℕ) (b : List (Step G)) (v : Step G) → m k ≡ true → rank m k < length old → Renumbers s m k v → ChosenWritten s m k old b → ChosenWritten s m (k + 1) old (set b (rank m k) v)
   write_more k b v e room right w =
       let r = rank_taken m k e in
       let lg = w.long in
@@ -27,17 +27,17 @@ module _ {G : Type 0} (s : State G) (m : ℕ → Bool) (old : List (Step G)) whe
         each = λ j lt t d. ⊎_elim
             (λ before.
             let lo = rank_below m j k before t in
-            subst (Renumbers s m j) (sym (get_or-set_other b (rank m k) (rank m j) v d (λ x. let z : ⊥ = omega arith in z))) (w.each j before t d))
+            subst (Renumbers s m j) (sym (get_or-set_other b (rank m k) (rank m j) v d (λ x. omega arith))) (w.each j before t d))
             (λ i.
             subst (λ (q : ℕ). Renumbers s m q (get_or (set b (rank m k) v) (rank m q) d)) (sym i)
             (subst (Renumbers s m k) (sym (get_or-set_same b (rank m k) v d (omega arith))) right))
             (last_or j k lt);
-        rest = λ i h d. get_or-set_other b (rank m k) i v d (λ x. let z : ⊥ = omega arith in z) ∙ w.rest i (omega arith) d;
+        rest = λ i h d. get_or-set_other b (rank m k) i v d (λ x. omega arith) ∙ w.rest i (omega arith) d;
       }
 
   -- what the writing loop keeps
   abbrev pub Writing : ℕ → ℕ → List (Step G) → Type 0
-  Writing k n b = (n ≡ rank m k) × Written s m k old b
+  Writing k n b = (n ≡ rank m k) × ChosenWritten s m k old b
 
   module _ (k n : ℕ) (b : List (Step G)) (loop : Writing k n b) where
     pub writing_skip : false ≡ m k → Writing (k + 1) n b
@@ -51,5 +51,5 @@ module _ {G : Type 0} (s : State G) (m : ℕ → Bool) (old : List (Step G)) whe
       writing_more c v is right =
           let low = rank_below m k (t + 1) within (sym e) in (
             ap (λ (j : ℕ). j + 1) loop.0 ∙ sym (rank_taken m k (sym e)),
-            subst (Written s m (k + 1) old) (ap (λ (j : ℕ). set b j v) (sym loop.0) ∙ sym is) (write_more k b v (sym e) (omega arith) right loop.1),
+            subst (ChosenWritten s m (k + 1) old) (ap (λ (j : ℕ). set b j v) (sym loop.0) ∙ sym is) (write_more k b v (sym e) (omega arith) right loop.1),
           )

@@ -4,7 +4,7 @@ use Rattle.standpoint.specs.declared.refusal.Refusal.{Refusal}
 use Rattle.standpoint.specs.declared.refusal.Refusal.TheVariants.{RestsOnLater}
 use Rattle.saturation.specs.declared.row.Row.{Row}
 use Rattle.saturation.specs.Tables.{State, row_at, with_row}
-use Rattle.explanation.specs.Needed.{Rests, Needed, Unfounded}
+use Rattle.explanation.specs.Needed.{Rests, RestsEarlier, Needed, Unfounded}
 
 abbrev pub mark_at : {G : Type 0} → State G → ℕ → Bool
 mark_at s k = (row_at s k).mark
@@ -34,11 +34,6 @@ pub record AddsMarks {G : Type 0} (s u : State G) (P : ℕ → Type 0) : Type 0 
   pub old : (j : ℕ) → mark_at s j ≡ true → mark_at u j ≡ true
   pub new : (j : ℕ) → P j → mark_at u j ≡ true
   pub only : (j : ℕ) → mark_at u j ≡ true → (mark_at s j ≡ true) ⊎ P j
-
--- whether the k-th settled statement rests on earlier ones alone
-abbrev pub RestsEarlier : {G : Type 0} → State G → ℕ → Bool → Type 0
-RestsEarlier s k true = (j : ℕ) → Rests s k j → j < k
-RestsEarlier s k false = (j : ℕ) × Rests s k j × (k ≤ j)
 
 -- each marked step up to the t-th rests on earlier ones alone
 abbrev pub MarksFounded : {G : Type 0} → State G → ℕ → Type 0

@@ -1,5 +1,5 @@
 -- The kept steps that a settled statement rests on, and how they are written out. Settling places count from 0.
-use Rattle.std.specs.Prelude.{◌≡◌, ℕ, zero, suc, ◌+◌, ◌<◌, ◌≤◌, Bool, true, cond, ◌⊎◌, List, length, slice_index_or}
+use Rattle.std.specs.Prelude.{◌≡◌, ℕ, zero, suc, ◌+◌, ◌<◌, ◌≤◌, Bool, true, false, cond, ◌⊎◌, List, length, slice_index_or}
 use Rattle.standpoint.specs.declared.step.Step.{Step}
 use Rattle.standpoint.specs.Steps.{given}
 use Rattle.saturation.specs.declared.row.Kept.{Kept}
@@ -10,13 +10,18 @@ use Rattle.saturation.specs.Searching.{Premise}
 abbrev pub kept_at : {G : Type 0} → State G → ℕ → Kept
 kept_at s k = (row_at s (turn_at s k)).kept
 
--- a kept step names the j-th settled statement, whose place is j + 1 there
+-- a kept step names a place
 abbrev pub Names : Kept → ℕ → Type 0
-Names kept j = (kept.first ≡ j + 1) ⊎ ((kept.second ≡ j + 1) ⊎ (kept.third ≡ j + 1))
+Names kept p = (kept.first ≡ p) ⊎ ((kept.second ≡ p) ⊎ (kept.third ≡ p))
 
--- the k-th settled statement rests on the j-th at once
+-- the k-th settled statement rests on the j-th at once, whose place in a step is j + 1
 abbrev pub Rests : {G : Type 0} → State G → ℕ → ℕ → Type 0
-Rests s k j = Names (kept_at s k) j
+Rests s k j = Names (kept_at s k) (j + 1)
+
+-- whether the k-th settled statement rests on earlier ones alone
+abbrev pub RestsEarlier : {G : Type 0} → State G → ℕ → Bool → Type 0
+RestsEarlier s k true = (j : ℕ) → Rests s k j → j < k
+RestsEarlier s k false = (j : ℕ) × Rests s k j × (k ≤ j)
 
 -- what the t-th settled statement rests on, itself among it
 pub data Needed {G : Type 0} (s : State G) (t : ℕ) : ℕ → Type 0 where
@@ -25,11 +30,11 @@ pub data Needed {G : Type 0} (s : State G) (t : ℕ) : ℕ → Type 0 where
 
 -- each needed step rests on earlier ones alone
 abbrev pub Founded : {G : Type 0} → State G → ℕ → Type 0
-Founded s t = (k : ℕ) → Needed s t k → (j : ℕ) → Rests s k j → j < k
+Founded s t = (k : ℕ) → Needed s t k → RestsEarlier s k true
 
--- some needed step rests on one that was not settled earlier
+-- some needed step does not
 abbrev pub Unfounded : {G : Type 0} → State G → ℕ → Type 0
-Unfounded s t = (k : ℕ) × Needed s t k × ((j : ℕ) × Rests s k j × (k ≤ j))
+Unfounded s t = (k : ℕ) × Needed s t k × RestsEarlier s k false
 
 -- how many of the first k are chosen
 abbrev pub rank : (ℕ → Bool) → ℕ → ℕ
@@ -50,7 +55,7 @@ pub record Renumbers {G : Type 0} (s : State G) (m : ℕ → Bool) (k : ℕ) (v 
   pub gives : Premise s k (given v)
 
 -- of the first n settled ones those chosen are written, one after the other; the buffer is else as it was
-pub record Written {G : Type 0} (s : State G) (m : ℕ → Bool) (n : ℕ) (old new : List (Step G)) : Type 0 where
+pub record ChosenWritten {G : Type 0} (s : State G) (m : ℕ → Bool) (n : ℕ) (old new : List (Step G)) : Type 0 where
   pub long : length new ≡ length old
   pub each : (k : ℕ) → k < n → m k ≡ true → (d : Step G) → Renumbers s m k (slice_index_or new (rank m k) d)
   pub rest : (i : ℕ) → rank m n ≤ i → (d : Step G) → slice_index_or new i d ≡ slice_index_or old i d

@@ -3,8 +3,8 @@
 ghost use Rattle.std.specs.Prelude.{◌≡◌, ◌+◌, ◌<◌, ◌≤◌, true, false, map};
 ghost use Rattle.saturation.specs.Phases.{is_begun};
 ghost use Rattle.saturation.specs.Tables.{view, Same};
-ghost use Rattle.explanation.specs.Needed.{kept_at, Rests};
-ghost use Rattle.explanation.specs.Marks.{mark_at, remarked, with_mark, Clean, ButMarks, AddsMarks, RestsEarlier, MarksNeeded};
+ghost use Rattle.explanation.specs.Needed.{kept_at, Rests, RestsEarlier};
+ghost use Rattle.explanation.specs.Marks.{mark_at, remarked, with_mark, Clean, ButMarks, AddsMarks, MarksNeeded};
 
 use saturation::{Kept, Row, Table};
 use standpoint::Refusal;
@@ -91,7 +91,7 @@ pub(crate) fn mark_needed<G: Copy>(reasoner: &mut Table<'_, G>, t: usize) -> Res
     ensures state { MarksNeeded (view reasoner.old) (view reasoner.new) t result }
 {
     set_mark(reasoner, t);
-    for k in (0..=t).rev() {
+    for k in (0..t + 1).rev() {
         if marked(reasoner, k) {
             if !rests_earlier(reasoner, k) {
                 return Err(Refusal::RestsOnLater);

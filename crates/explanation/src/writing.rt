@@ -1,8 +1,8 @@
 // Writing the marked steps out.
 ghost use Rattle.std.specs.Prelude.{◌≡◌, ◌+◌, ◌<◌, ◌≤◌, true, length, slice_set, filter};
 ghost use Rattle.saturation.specs.Tables.{view};
-ghost use Rattle.explanation.specs.Needed.{rank, Renumbers, Written};
-ghost use Rattle.explanation.specs.Marks.{mark_at, MarksFounded, RestsEarlier};
+ghost use Rattle.explanation.specs.Needed.{rank, Renumbers, ChosenWritten, RestsEarlier};
+ghost use Rattle.explanation.specs.Marks.{mark_at, MarksFounded};
 
 use crate::marks::marked;
 use saturation::{Row, Table};
@@ -55,7 +55,7 @@ pub(crate) fn write_marked<G: Clone + Copy + Drop>(
 ) -> usize
     requires { (t < reasoner.now.settled) × (rank (mark_at (view reasoner.now)) (t + 1) ≤ length buffer.old) × MarksFounded (view reasoner.now) t }
     ensures count { result ≡ rank (mark_at (view reasoner.now)) (t + 1) }
-    ensures steps { Written (view reasoner.now) (mark_at (view reasoner.now)) (t + 1) buffer.old buffer.new }
+    ensures steps { ChosenWritten (view reasoner.now) (mark_at (view reasoner.now)) (t + 1) buffer.old buffer.new }
 {
     // By a counter: for a loop over `filter` and `enumerate` here the check states nothing that could be proved.
     let mut count = 0;

@@ -55,7 +55,7 @@ module _ {G : Type 0} (al : Algebra G) (b : Base G) (x : Statement) (g : G) wher
           (λ m. wider o.0 o.1 (h.sound o m));
       complete = narrower h.offered h.complete;
       right = keeps (accepting b x g) [] (kept_accepted refl (inl refl)) (λ i lt un d. wider_right _ _ (h.right i lt un d));
-      explained = λ k lt. absurd (let z : ⊥ = omega arith in z);
+      explained = λ k lt. absurd (omega arith);
     }
 
   -- a statement that finds no row is new, and all rows are taken

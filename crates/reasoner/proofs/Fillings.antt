@@ -1,7 +1,8 @@
 -- Taking the tautologies one by one.
-use Rattle.std.proofs.Common.{◌≡◌, ℕ, suc, ◌+◌, ◌<◌, ◌≤◌, Bool, true, false, List, [], ◌∷◌, length, Some, None, sym, refl, ap, ◌∙◌, subst, inl, inr, ⊎_elim, arith}
+use Rattle.std.proofs.Common.{◌≡◌, ℕ, ◌+◌, ◌<◌, ◌≤◌, Bool, true, false, List, [], ◌∷◌, length, Some, None, sym, refl, ap, ◌∙◌, subst, inl, inr, ⊎_elim, arith}
 use Rattle.std.specs.List.{slice_get}
 use Rattle.std.proofs.lemmas.Bool.Decides.{nat_tests}
+use Rattle.std.proofs.lemmas.Option.{slice_get_within}
 use Rattle.standpoint.specs.declared.sizes.Sizes.{Sizes}
 use Rattle.standpoint.specs.declared.statement.Statement.{Statement}
 use Rattle.standpoint.specs.Lists.{In}
@@ -14,7 +15,7 @@ use Rattle.standpoint.proofs.TautologyList.{tautologies_listed}
 use Rattle.runs.specs.Runs.{Offers}
 use Rattle.runs.specs.Runs.Run.{fresh}
 use Rattle.runs.specs.Runs.Offers.{leaf, one, two, three}
-use Rattle.runs.proofs.Distinct.{in_nth}
+use Rattle.runs.proofs.Distinct.{in_nth, nth_in}
 use Rattle.saturation.specs.declared.row.Row.{Row}
 use Rattle.saturation.specs.Rows.{kept}
 use Rattle.saturation.specs.Tables.{State, OpenAt, statement_at, capacity, has_room}
@@ -35,21 +36,13 @@ one_row al s t x g r taken apart =
     let first : statement_at t s.len ≡ x = taken.only s.len (omega arith) (omega arith) in
     let second : statement_at t (s.len + 1) ≡ x = taken.only (s.len + 1) (omega arith) (omega arith) in
     let same = taken.apart apart s.len (s.len + 1) (omega arith) (omega arith) (first ∙ sym second) in
-    absurd (let z : ⊥ = omega arith in z))
+    absurd (omega arith))
     (λ fine. fine)
     (below_or (s.len + 1) t.len)
 
 -- rows that are not settled stay so under an offer
 pub still_open : {G : Type 0} (s t : State G) → Grown s t → ((i : ℕ) → i < s.len → OpenAt s i) → (i : ℕ) → i < t.len → OpenAt t i
 still_open s t g opened i h = ⊎_elim (λ lt. g.places i lt ∙ opened i lt) (λ ge. g.fresh i ge h) (below_or i s.len)
-
-nth_in : {X : Type 0} (xs : List X) (x : X) → In xs x → (j : ℕ) × (j < length xs) × (slice_get xs j ≡ Some x)
-nth_in [] x m = absurd m
-nth_in (y ∷ ys) x m =
-    ⊎_elim
-    (λ e. (0, omega arith, ap Some e))
-    (λ r. let p = nth_in ys x r in let h = p.1 in (suc p.0, omega arith, p.2))
-    m
 
 module _ {G : Type 0} (al : Algebra G) (n : Sizes) (s : State G) (k : ℕ) (f : Filled al n s k) where
   pub filled_more : (t : State G) (x : Statement) (r : Bool) → slice_get (tautologies n) k ≡ Some x → k < capacity s →
@@ -85,7 +78,7 @@ module _ {G : Type 0} (al : Algebra G) (n : Sizes) (s : State G) (k : ℕ) (f : 
       took false e =
           let no = (taken.refused e).1 in
           let few = f.few in
-          absurd (let z : ⊥ = grind (arith, nat_tests) in z)
+          absurd (grind (arith, nat_tests))
 
   pub filled_skip : slice_get (tautologies n) k ≡ None → Filled al n s (k + 1)
   filled_skip none = record {
@@ -100,22 +93,22 @@ module _ {G : Type 0} (al : Algebra G) (n : Sizes) (s : State G) (k : ℕ) (f : 
   }
     where
       never : {y : Statement} → None ≡ Some y → ⊥
-      never e = let z : ◌≡◌ {A = ℕ} 0 1 = cc in omega arith
+      never e = grind arith
 
 -- no row is taken
 pub filled_none : {G : Type 0} (al : Algebra G) (n : Sizes) (rows : List Row) (grades : List G) → Filled al n (tables.fresh rows grades) 0
 filled_none al n rows grades = record {
   offered = [];
   rows = record {
-    best = record { apart = λ i j h. absurd (let z : ⊥ = omega arith in z); every = λ x g m. absurd m; from = λ i h. absurd (let z : ⊥ = omega arith in z); best = λ i h. absurd (let z : ⊥ = omega arith in z) };
-    played = λ k h. absurd (let z : ⊥ = omega arith in z);
+    best = record { apart = λ i j h. absurd (omega arith); every = λ x g m. absurd m; from = λ i h. absurd (omega arith); best = λ i h. absurd (omega arith) };
+    played = λ k h. absurd (omega arith);
   };
   sound = λ o m. absurd m;
-  complete = λ j x h. absurd (let z : ⊥ = omega arith in z);
+  complete = λ j x h. absurd (omega arith);
   few = omega arith;
   unsettled = refl;
-  opened = λ i h. absurd (let z : ⊥ = omega arith in z);
-  right = λ i h. absurd (let z : ⊥ = omega arith in z);
+  opened = λ i h. absurd (omega arith);
+  right = λ i h. absurd (omega arith);
 }
 
 -- all tautologies are taken: the rows hold the run with nothing accepted and nothing settled
@@ -133,7 +126,7 @@ filled_holds {G} al n s k f all = record {
   sound = λ o m. let p = f.sound o m in leaf (subst (Leaf al (empty_base n) o.0) (sym p.1) (tautology p.0));
   complete = known;
   right = f.right;
-  explained = λ j h. absurd (let z : ⊥ = omega arith in z);
+  explained = λ j h. absurd (omega arith);
 }
   where
     none : (j : ℕ) → j < s.settled → ⊥
@@ -143,8 +136,8 @@ filled_holds {G} al n s k f all = record {
     known x g (leaf (accepted m fits)) = absurd m
     known x _ (leaf (tautology t)) =
         let p = nth_in (tautologies n) x ((tautologies_listed n _ refl).complete x t) in
-        let h = p.1 in
-        f.complete p.0 x (omega arith) p.2
+        let within = slice_get_within (tautologies n) p.0 x p.1 in
+        f.complete p.0 x (omega arith) p.1
     known x g (one r m) = absurd m
     known x _ (two r m o) = absurd m
     known x _ (three r m o q) = absurd m

@@ -1,35 +1,35 @@
 -- What the rows tell of a statement, and of how the run stands.
-use Rattle.std.proofs.Common.{◌≡◌, ℕ, ◌<◌, ◌≤◌, Bool, true, false, cond, leb, ◌⊎◌, get_or, Some, None, Err, Result, sym, ap, ◌∙◌, subst, ⊎_elim, arith}
+use Rattle.std.proofs.Common.{◌≡◌, ℕ, ◌<◌, ◌≤◌, Bool, true, false, cond, leb, ◌⊎◌, get_or, Some, None, sym, ap, ◌∙◌, subst, ⊎_elim, arith}
 use Rattle.std.proofs.lemmas.Bool.Decides.{nat_tests}
-use Rattle.standpoint.specs.declared.refusal.Refusal.{Refusal}
-use Rattle.standpoint.specs.declared.refusal.Refusal.TheVariants.{NotBegun}
+use Rattle.standpoint.specs.declared.refusal.Refusal.TheVariants.{DoesNotFit}
+use Rattle.standpoint.specs.declared.sizes.Sizes.{Sizes}
 use Rattle.standpoint.specs.declared.statement.Statement.{Statement}
 use Rattle.standpoint.specs.Lists.{In}
 use Rattle.standpoint.specs.Algebra.{Algebra, Laws}
+use Rattle.standpoint.specs.Statements.{Fits}
 use Rattle.standpoint.specs.Derivations.{Base, Derives}
 use Rattle.standpoint.proofs.Derived.{contradiction_underivable}
+use Rattle.standpoint.proofs.Lists.{in_stands, in_getD}
 use Rattle.runs.specs.declared.Stand.{Stand}
 use Rattle.runs.specs.declared.Stand.TheVariants.{Open, Ended, Full}
 use Rattle.runs.specs.Runs.{Settled, Unsettled, Stands}
 use Rattle.runs.proofs.Best.{settled_is_best, none_is_exact}
 use Rattle.saturation.specs.declared.table.Table.{Table}
-use Rattle.standpoint.specs.declared.sizes.Sizes.{Sizes}
 use Rattle.saturation.specs.declared.phase.Phase.TheVariants as phase
-use Rattle.saturation.specs.Phases.{is_begun}
+use Rattle.saturation.specs.Phases.{is_begun, sizes_of}
 use Rattle.saturation.specs.Tables.{State, view, capacity, statement_at, turn_at, OpenAt}
 use Rattle.saturation.specs.Offering.{Apart}
 use Rattle.saturation.specs.Searching.{Lists}
 use Rattle.saturation.specs.Saturation.{Holds}
 use Rattle.saturation.proofs.Offers.{below_or, not_both, in_same}
 use Rattle.saturation.proofs.Lists.{Fit}
-use Rattle.saturation.proofs.Stepping.{in_stands, in_getD}
 use Rattle.saturation.proofs.Counting.{not_full, some_open, all_closed}
 use Rattle.saturation.proofs.Lasting.{fits_capacity}
 use Rattle.reasoner.specs.Models.{Holding, taking, going, standing}
 use Rattle.reasoner.specs.declared.asking.Answer.{Answer}
 use Rattle.reasoner.specs.declared.asking.Answer.TheVariants.{Graded, Nothing, Pending}
-use Rattle.reasoner.specs.Asking.{Says, before_begin, Asked, RowGraded, LeftOver}
-use Rattle.reasoner.proofs.Holding.{held}
+use Rattle.reasoner.specs.Asking.{Says, Askable, AskRefused, misfit, RowGraded, LeftOver}
+use Rattle.reasoner.proofs.Holding.{Held, held}
 
 -- the facts of a table that its ghost fields hold
 fit_of : {G : Type 0} (t : Table G) → Fit (view t)
@@ -74,7 +74,7 @@ graded_row {G} s l is x g (i, within, holds, closed, grade) =
 pub ended_out : (m n : ℕ) → Ended ≡ cond (leb m n) Ended Open → m ≤ n
 ended_out m n is =
     ⊎_elim
-    (λ lt. let no : leb m n ≡ false = grind (arith, nat_tests) in let z : ◌≡◌ {A = ℕ} 0 1 = cc in absurd (let y : ⊥ = omega arith in y))
+    (λ lt. let no : leb m n ≡ false = grind (arith, nat_tests) in absurd (grind arith))
     (λ le. le)
     (below_or n m)
 
@@ -85,7 +85,7 @@ other_room r m n is other =
     (λ le.
     let yes : leb m n ≡ true = grind (arith, nat_tests) in
     let ended : r ≡ Ended = is ∙ ap (λ (b : Bool). cond b Ended Open) yes in
-    absurd (⊎_elim (λ e. let z : ◌≡◌ {A = ℕ} 0 1 = cc in omega arith) (λ e. let z : ◌≡◌ {A = ℕ} 0 1 = cc in omega arith) other))
+    absurd (⊎_elim (λ e. grind arith) (λ e. grind arith) other))
     (below_or n m)
 
 module _ {G : Type 0} (a : Algebra G) (b : Base G) (t : Table G) where
@@ -109,17 +109,19 @@ module _ {G : Type 0} (a : Algebra G) (b : Base G) (t : Table G) where
 
   -- nor does one that stands full
   pub full_not_ended : {l : Settled G} {n : Sizes} → t.phase ≡ phase.Full n → Holding a b t l → Stands a b (capacity (view t)) l Ended → ⊥
-  full_not_ended {n = n} full (taking (is, range, h)) ended = let e : phase.Taking b.sizes ≡ phase.Full n = sym is ∙ full in let z : ◌≡◌ {A = ℕ} 0 1 = cc in omega arith
-  full_not_ended {n = n} full (going (is, range, h)) ended = let e : phase.Running b.sizes ≡ phase.Full n = sym is ∙ full in let z : ◌≡◌ {A = ℕ} 0 1 = cc in omega arith
+  full_not_ended {n = n} full (taking (is, range, h)) ended = let e : phase.Taking b.sizes ≡ phase.Full n = sym is ∙ full in grind arith
+  full_not_ended {n = n} full (going (is, range, h)) ended = let e : phase.Running b.sizes ≡ phase.Full n = sym is ∙ full in grind arith
   full_not_ended full (standing (is, range, h)) ended = ended.0 h.full
+
+  -- a settled grade is the best, and if x is the contradiction, the base is unmeetable
+  pub says_settled : Laws a → {l : Settled G} → Held a b t l → (x : Statement) (g : G) → In l (x, g) → Says a b l (capacity (view t)) x (Graded g)
+  says_settled laws {l} h x g m =
+      let best = settled_is_best a laws b l h.run x g m in
+      (m, best, λ is M meets. contradiction_underivable a b h.in_range M meets (subst (λ (y : Statement). Derives a b y g) is best.0))
 
   module _ (laws : Laws a) {l : Settled G} (h : Holding a b t l) (x : Statement) where
     pub says_graded : (g : G) → RowGraded (view t) x (Some g) → Says a b l (capacity (view t)) x (Graded g)
-    says_graded g row =
-        let run = (held h).run in
-        let m = graded_row (view t) l (held h).lists x g row in
-        let best = settled_is_best a laws b l run x g m in
-        (m, best, λ is M meets. contradiction_underivable a b (held h).in_range M meets (subst (λ (y : Statement). Derives a b y g) is best.0))
+    says_graded g row = says_settled laws (held h) x g (graded_row (view t) l (held h).lists x g row)
 
     says_nothing : RowGraded (view t) x None → Stands a b (capacity (view t)) l Ended → Says a b l (capacity (view t)) x Nothing
     says_nothing row ended =
@@ -134,6 +136,10 @@ module _ {G : Type 0} (a : Algebra G) (b : Base G) (t : Table G) where
     said_without row Nothing ended = says_nothing row (ended a b l h)
     said_without row Pending still = says_pending row (still a b l h)
 
--- nothing is said before begin
-pub refuses_idle : {G : Type 0} (s : Table G) (x : Statement) (r : Result (Answer G) Refusal) → r ≡ Err NotBegun → is_begun s.phase ≡ false → Asked s x r
-refuses_idle s x r is off = subst (Asked s x) (sym is) (before_begin off)
+-- one may ask for what fits the sizes of the run that is begun, and for nothing else
+module _ {G : Type 0} (s : Table G) (x : Statement) {n : Sizes} (run : (is_begun s.phase ≡ true) × (n ≡ sizes_of s.phase)) where
+  pub askable : Fits n x → Askable s x
+  askable fits = record { begun = run.0; fits = subst (λ (m : Sizes). Fits m x) run.1 fits }
+
+  pub unfit_refused : (Fits n x → ⊥) → AskRefused s x DoesNotFit
+  unfit_refused unfit = misfit run.0 (λ f. unfit (subst (λ (m : Sizes). Fits m x) (sym run.1) f))

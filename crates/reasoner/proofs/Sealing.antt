@@ -13,7 +13,7 @@ use Rattle.saturation.specs.Phases.{sizes_of, sealed_run, sealed_phase}
 use Rattle.saturation.specs.Tables.{State, view, capacity, Same}
 use Rattle.saturation.specs.Saturation.{Holds, HoldsAs, Settles}
 use Rattle.reasoner.specs.Models.{StandsFor}
-use Rattle.reasoner.specs.Calls.{after, SettlesOn}
+use Rattle.reasoner.specs.Calls.{model_after, SettlesOn}
 
 abbrev pub is_full : Stand → Bool
 is_full Open = false
@@ -27,7 +27,7 @@ not_full Full other = absurd (other refl)
 
 -- the phase of a run that stands so
 phase_after : {G : Type 0} (al : Algebra G) (b : Base G) (l : Settled G) (v : Table G) (stand : Stand) →
-    v.phase ≡ sealed_run b.sizes (is_full stand) → InRange b.sizes → HoldsAs al b l (view v) stand → StandsFor al (after b l stand) v
+    v.phase ≡ sealed_run b.sizes (is_full stand) → InRange b.sizes → HoldsAs al b l (view v) stand → StandsFor al (model_after b l stand) v
 phase_after al b l v Open is range h = (is, range, h)
 phase_after al b l v Ended is range h = (is, range, h)
 phase_after al b l v Full is range h = (is, range, h)

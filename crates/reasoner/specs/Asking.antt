@@ -25,9 +25,13 @@ BestGrade {G} a b x g = Derives a b x g × ((d : G) → Derives a b x d → NoWo
 abbrev pub Underivable : {G : Type 0} → Algebra G → Base G → Statement → Type 0
 Underivable {G} a b x = (d : G) → Derives a b x d → ⊥
 
--- if x is the contradiction, no structure meets all that is accepted
+-- no structure meets all that is accepted
+abbrev pub Unmeetable : {G : Type 0} → Base G → Type 0
+Unmeetable b = (M : Structure b.sizes) → MeetsAccepted b M → ⊥
+
+-- if x is the contradiction, the base is unmeetable
 abbrev pub Excludes : {G : Type 0} → Base G → Statement → Type 0
-Excludes b x = x ≡ contradiction → (M : Structure b.sizes) → MeetsAccepted b M → ⊥
+Excludes b x = x ≡ contradiction → Unmeetable b
 
 -- what is said of x where this is settled over the base, on so many rows
 abbrev pub Says : {G : Type 0} → Algebra G → Base G → Settled G → ℕ → Statement → Answer G → Type 0
@@ -35,7 +39,12 @@ Says a b l rows x (Graded g) = In l (x, g) × BestGrade a b x g × Excludes b x
 Says a b l rows x Nothing = Unsettled l x × Stands a b rows l Ended × Underivable a b x
 Says a b l rows x Pending = Unsettled l x × (Stands a b rows l Ended → ⊥)
 
--- the first refusal of ask that applies
+-- one may ask for x: the reasoner is begun, and x fits its sizes
+pub record Askable {G : Type 0} (s : Table G) (x : Statement) : Type 0 where
+  pub begun : is_begun s.phase ≡ true
+  pub fits : Fits (sizes_of s.phase) x
+
+-- one may not: the first refusal that applies
 pub data AskRefused {G : Type 0} (s : Table G) (x : Statement) : Refusal → Type 0 where
   before_begin : is_begun s.phase ≡ false → AskRefused s x NotBegun
   misfit : is_begun s.phase ≡ true → (Fits (sizes_of s.phase) x → ⊥) → AskRefused s x DoesNotFit
@@ -43,8 +52,7 @@ pub data AskRefused {G : Type 0} (s : Table G) (x : Statement) : Refusal → Typ
 -- the answer of ask, for every kind and every history that the reasoner may hold
 abbrev pub Asked : {G : Type 0} → Table G → Statement → Result (Answer G) Refusal → Type 0
 Asked {G} s x (Ok said) =
-    (is_begun s.phase ≡ true) × Fits (sizes_of s.phase) x
-    × ((a : Algebra G) → Laws a → (b : Base G) (l : Settled G) → Holding a b s l → Says a b l (capacity (view s)) x said)
+    Askable s x × ((a : Algebra G) → Laws a → (b : Base G) (l : Settled G) → Holding a b s l → Says a b l (capacity (view s)) x said)
 Asked s x (Err e) = AskRefused s x e
 
 -- the grade of the settled row that holds x, or that no settled row does

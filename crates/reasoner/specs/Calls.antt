@@ -51,16 +51,16 @@ Adds {G} a x g s t (Err e) =
     × ((b : Base G) → StandsFor a (based b) s → e ≡ RowsTaken → (Known a b [] x → ⊥) × AllRowsTaken a b (capacity (view s)))
 
 -- a run after a settle
-abbrev pub after : {G : Type 0} → Base G → Settled G → Stand → Model G
-after b l Open = running b l
-after b l Ended = running b l
-after b l Full = stopped b l
+abbrev pub model_after : {G : Type 0} → Base G → Settled G → Stand → Model G
+model_after b l Open = running b l
+model_after b l Ended = running b l
+model_after b l Full = stopped b l
 
 -- n times, unless the run stands ended or full before, the next statement is settled
 abbrev pub SettlesOn : {G : Type 0} → Algebra G → ℕ → Base G → Settled G → Table G → Table G → ℕ → Stand → Type 0
 SettlesOn {G} a n b l s t count stand =
     (later : Settled G) × ((length later ≡ count) × (Settling a b (capacity (view s)) n l later
-    × (Stands a b (capacity (view s)) (l ++ later) stand × StandsFor a (after b (l ++ later) stand) t)))
+    × (Stands a b (capacity (view s)) (l ++ later) stand × StandsFor a (model_after b (l ++ later) stand) t)))
 
 -- settle seals the base and settles; it refuses only a reasoner that is not begun
 abbrev pub SettledSo : {G : Type 0} → Algebra G → ℕ → Table G → Table G → Result (ℕ × Stand) Refusal → Type 0

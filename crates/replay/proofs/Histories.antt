@@ -9,7 +9,7 @@ use Rattle.standpoint.specs.Lists.{In}
 use Rattle.standpoint.specs.Algebra.{Algebra}
 use Rattle.standpoint.specs.Derivations.{Base}
 use Rattle.runs.specs.declared.Stand.{Stand}
-use Rattle.runs.specs.declared.Stand.TheVariants.{Open, Ended, Full}
+use Rattle.runs.specs.declared.Stand.TheVariants.{Full}
 use Rattle.runs.specs.Runs as runs
 use Rattle.saturation.specs.declared.table.Table.{Table}
 use Rattle.saturation.specs.Phases.{is_begun, is_sealed}
@@ -19,7 +19,7 @@ use Rattle.saturation.proofs.Lists.{in_append_left}
 use Rattle.reasoner.specs.declared.asking.Answer.{Answer}
 use Rattle.reasoner.specs.Models.{based, running, stopped, accepting, StandsFor, Holding, taking, going, standing}
 use Rattle.reasoner.specs.Calls.{Unchanged, Begun, Adds, SettledSo, SettlesOn}
-use Rattle.reasoner.specs.Calls as calls
+use Rattle.reasoner.proofs.Holding.{holding_after}
 use Rattle.replay.specs.declared.call.Call.{Call}
 use Rattle.replay.specs.declared.call.Call.TheVariants.{Begin, Add, Settle, Ask, Explain}
 use Rattle.replay.specs.declared.call.Done.TheVariants.{Began, Added, Settled, Said, Explained}
@@ -64,7 +64,7 @@ module _ {G : Type 0} (a : Algebra G) where
   begin_on old n (Ok _) made = record {
     tied = begun [] (omega arith) (taking made.2) refl;
     begins = omega arith;
-    stays = λ e. absurd (let z : ⊥ = omega arith in z);
+    stays = λ e. absurd (omega arith);
   }
   begin_on old n (Err e) made = still old made.0
 
@@ -86,19 +86,14 @@ module _ {G : Type 0} (a : Algebra G) where
       }
   add_on old x g (Err e) made = still old made.0
 
-  holding_after : {t : Table G} (b : Base G) (l : runs.Settled G) (stand : Stand) → StandsFor a (calls.after b l stand) t → Holding a b t l
-  holding_after b l Open h = going h
-  holding_after b l Ended h = going h
-  holding_after b l Full h = standing h
-
   -- more is settled behind what was
   settled_more : {b : Base G} {s t : Table G} {l : runs.Settled G} (n count : ℕ) (stand : Stand) →
       ((c : Base G) → StandsFor a (based c) s → SettlesOn a n c [] s t count stand) →
       ((c : Base G) (m : runs.Settled G) → StandsFor a (running c m) s → SettlesOn a n c m s t count stand) →
       ((c : Base G) (m : runs.Settled G) → StandsFor a (stopped c m) s → (count ≡ 0) × (stand ≡ Full) × StandsFor a (stopped c m) t) →
       Holding a b s l → (later : runs.Settled G) × (length later ≡ count) × Holding a b t (l ++ later)
-  settled_more {b} n count stand first more full (taking h) = let w = first b h in (w.0, w.1.0, holding_after b w.0 stand w.1.1.1.1)
-  settled_more {b} {l = l} n count stand first more full (going h) = let w = more b l h in (w.0, w.1.0, holding_after b (l ++ w.0) stand w.1.1.1.1)
+  settled_more {b} {t = t} n count stand first more full (taking h) = let w = first b h in (w.0, w.1.0, holding_after a b t w.0 stand w.1.1.1.1)
+  settled_more {b} {t = t} {l = l} n count stand first more full (going h) = let w = more b l h in (w.0, w.1.0, holding_after a b t (l ++ w.0) stand w.1.1.1.1)
   settled_more {b} {t = t} {l = l} n count stand first more full (standing h) =
       let w = full b l h in
       ([], sym w.0, subst (λ (z : runs.Settled G). Holding a b t z) (sym (append-nil l)) (standing w.2))

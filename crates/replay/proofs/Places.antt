@@ -35,7 +35,7 @@ module _ {G : Type 0} (a : Algebra G) (calls : List (Call G)) (os : List (Outcom
     pub long : length room ≡ length end
 
   pub place : {n : ℕ} {t : Table G} {q : List (Step G)} → Performed a calls os first steps n t q → (i : ℕ) → i < n → Place q i
-  place none i h = absurd (let z : ⊥ = omega arith in z)
+  place none i h = absurd (omega arith)
   place (one_more {i = n} {t} {u} {p} {q} so_far rows long kept here) i h =
       ⊎_elim
       (λ lt.

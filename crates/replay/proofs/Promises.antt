@@ -31,14 +31,14 @@ use Rattle.replay.specs.declared.call.Done.{Done}
 use Rattle.replay.specs.declared.call.Done.TheVariants.{Said, Explained}
 use Rattle.replay.specs.Pasts.{Outcome, Past, steps_of, call_at, outcome_at, before, written}
 use Rattle.replay.specs.Performing.{as_outcome, ExplainsWithin, Performs, Performed, none, one_more}
-use Rattle.replay.specs.Replays.{base_at, Told, GradesAreBest, ContradictionExcludes, RunAt, NothingIsExact, written_at, ExplanationsPass, GradesAreExplained}
+use Rattle.replay.specs.Replays.{base_at, Told, GradesAreBest, GradedContradictionExcludes, RunAt, NothingIsExact, written_at, ExplanationsPass, GradesAreExplained}
 use Rattle.replay.proofs.Histories.{Tied, not_yet, begun, settled_in, goes_on}
 use Rattle.replay.proofs.Places.{Place, place, rows_kept, tied_at, begins_up}
 
 -- a performed call has an answer
 answered : {G R : Type 0} (done : R → Done G) (r : Result R Refusal) (d : Done G) → ◌≡◌ {A = Outcome G} (Ok d) (as_outcome done r) → (x : R) × (r ≡ Ok x) × (d ≡ done x)
 answered done (Ok x) d is = (x, refl, cc)
-answered done (Err e) d is = let z : ◌≡◌ {A = ℕ} 0 1 = cc in absurd (let y : ⊥ = omega arith in y)
+answered done (Err e) d is = absurd (grind arith)
 
 -- so many steps of the room, taken whether through its first places or not, are those that stand at the end
 module _ {X : Type 0} (w count places : ℕ) (end left : List X) where
@@ -49,9 +49,9 @@ module _ {X : Type 0} (w count places : ℕ) (end left : List X) where
 -- nothing is said exactly when the run stands ended and there is no derivation
 exactly : {G : Type 0} {a : Algebra G} (b : Base G) (l : runs.Settled G) (rows : ℕ) (x : Statement) (said : Answer G) → Says a b l rows x said →
     (said ≡ Nothing) ↔ (Stands a b rows l Ended × Underivable a b x)
-exactly b l rows x (Graded g) says = (λ e. let z : ◌≡◌ {A = ℕ} 0 1 = cc in absurd (let y : ⊥ = omega arith in y), λ r. absurd (r.1 g says.1.0))
+exactly b l rows x (Graded g) says = (λ e. absurd (grind arith), λ r. absurd (r.1 g says.1.0))
 exactly b l rows x Nothing says = (λ e. (says.1, says.2), λ r. refl)
-exactly b l rows x Pending says = (λ e. let z : ◌≡◌ {A = ℕ} 0 1 = cc in absurd (let y : ⊥ = omega arith in y), λ r. absurd (says.1 r.0))
+exactly b l rows x Pending says = (λ e. absurd (grind arith), λ r. absurd (says.1 r.0))
 
 -- a reasoner that was asked, over what the past accepted
 pub record Spoke {G : Type 0} (a : Algebra G) (p : Past G) (rows : ℕ) (x : Statement) (said : Answer G) (l : runs.Settled G) : Type 0 where
@@ -62,8 +62,8 @@ pub record Spoke {G : Type 0} (a : Algebra G) (p : Past G) (rows : ℕ) (x : Sta
 module _ {G : Type 0} (a : Algebra G) (laws : Laws a) where
   module _ {p : Past G} {s : Table G} (x : Statement) (said : Answer G) (asked : Asked s x (Ok said)) where
     pub spoke : (tied : Tied a p s) → Spoke a p (capacity (view s)) x said (settled_in tied)
-    spoke (not_yet nothing asleep) = absurd (both_ways _ asleep asked.0)
-    spoke (begun l some holding count) = record { says = asked.2 a laws p.base l holding; run = (held holding).run; count = count }
+    spoke (not_yet nothing asleep) = absurd (both_ways _ asleep asked.0.begun)
+    spoke (begun l some holding count) = record { says = asked.1 a laws p.base l holding; run = (held holding).run; count = count }
 
   -- what was said at a place where it was asked for x
   pub told : {p : Past G} {s : Table G} (t : Table G) (tied : Tied a p s) (x : Statement) (said : Answer G) (call : Call G) (o : Outcome G) (room left : List (Step G)) →
@@ -124,14 +124,14 @@ module _ {G : Type 0} (a : Algebra G) (laws : Laws a) where
       pub grades_are_best : GradesAreBest a calls os n
       grades_are_best i x g at = (spoke_at i x (Graded g) at).1.says.1
 
-      pub contradiction_excludes : ContradictionExcludes a calls os n
-      contradiction_excludes i g at = (spoke_at i _ (Graded g) at).1.says.2 refl
+      pub graded_contradiction_excludes : GradedContradictionExcludes a calls os n
+      graded_contradiction_excludes i g at = (spoke_at i _ (Graded g) at).1.says.2 refl
 
       pub nothing_is_exact : NothingIsExact a calls os n (capacity (view first))
       nothing_is_exact i x said at =
           let w = spoke_at i x said at in
           let base = base_at a calls os n i in
-          let run : RunAt a calls os n (capacity (view first)) i w.0 = record {
+          let run : RunAt a calls os n i w.0 = record {
             run = w.1.run;
             count = w.1.count;
             only = λ other r e. one_run a laws base other w.0 r w.1.run (e ∙ sym w.1.count);
@@ -141,7 +141,7 @@ module _ {G : Type 0} (a : Algebra G) (laws : Laws a) where
     -- a statement that got a grade is settled from then on, over the same base, until the next begin
     asked_settled : {j : ℕ} {s : Table G} {q : List (Step G)} (so_far : Performed a calls os first steps j s q) (i : ℕ) (x : Statement) (g : G) → Told a calls os j i x (Graded g) →
         (before calls os j).begins ≡ (before calls os i).begins → In (settled_in (tied_at a calls os first steps asleep so_far)) (x, g) × ((before calls os j).base ≡ (before calls os i).base)
-    asked_settled none i x g (below, is_call, is_o) same = absurd (let z : ⊥ = omega arith in z)
+    asked_settled none i x g (below, is_call, is_o) same = absurd (omega arith)
     asked_settled (one_more {i = k} {t} {u} {p} {q} so_far rows long kept here) i x g (below, is_call, is_o) same =
         let now = tied_at a calls os first steps asleep so_far in
         let on = goes_on a now (call_at calls k) (outcome_at os k) (drop (written os k) p) (drop (written os k) q) here in
@@ -175,7 +175,7 @@ module _ {G : Type 0} (a : Algebra G) (laws : Laws a) where
       pub explanations_pass : ExplanationsPass a calls os n end
       explanations_pass j x most count below is_call is_o =
           let e = explanation_at j x most count (place a calls os first steps all j below) is_call is_o in
-          (e.grade, e.passes, (e.derived, e.best))
+          (e.grade, e.passes, e.best)
 
       pub grades_are_explained : GradesAreExplained a calls os n end
       grades_are_explained i j x g most (i-below, is-asked, is_said) before-j below same is_call =

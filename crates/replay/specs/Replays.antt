@@ -5,9 +5,8 @@ use Rattle.standpoint.specs.declared.statement.Statement.{Statement}
 use Rattle.standpoint.specs.declared.step.Step.{Step}
 use Rattle.standpoint.specs.Algebra.{Algebra}
 use Rattle.standpoint.specs.Statements.{contradiction}
-use Rattle.standpoint.specs.Structures.{Structure}
 use Rattle.standpoint.specs.Derivations.{Base}
-use Rattle.standpoint.specs.Verdicts.{Passes, MeetsAccepted}
+use Rattle.standpoint.specs.Verdicts.{Passes}
 use Rattle.runs.specs.declared.Stand.TheVariants.{Ended}
 use Rattle.runs.specs.Runs as runs
 use Rattle.runs.specs.Runs.{Run, Stands}
@@ -17,7 +16,7 @@ use Rattle.saturation.specs.Phases.{is_begun}
 use Rattle.saturation.specs.Tables.{view, fresh, capacity}
 use Rattle.reasoner.specs.declared.asking.Answer.{Answer}
 use Rattle.reasoner.specs.declared.asking.Answer.TheVariants.{Graded, Nothing}
-use Rattle.reasoner.specs.Asking.{BestGrade, Underivable}
+use Rattle.reasoner.specs.Asking.{BestGrade, Underivable, Unmeetable}
 use Rattle.replay.specs.declared.call.Call.{Call}
 use Rattle.replay.specs.declared.call.Call.TheVariants.{Ask, Explain}
 use Rattle.replay.specs.declared.call.Done.TheVariants.{Said, Explained}
@@ -53,11 +52,11 @@ module _ {G : Type 0} (a : Algebra G) (calls : List (Call G)) (outcomes : List (
   GradesAreBest = (i : ℕ) (x : Statement) (g : G) → Told i x (Graded g) → BestGrade a (base_at i) x g
 
   -- where ask gives the contradiction a grade, no structure meets all that was accepted
-  abbrev pub ContradictionExcludes : Type 0
-  ContradictionExcludes = (i : ℕ) (g : G) → Told i contradiction (Graded g) → (M : Structure (base_at i).sizes) → MeetsAccepted (base_at i) M → ⊥
+  abbrev pub GradedContradictionExcludes : Type 0
+  GradedContradictionExcludes = (i : ℕ) (g : G) → Told i contradiction (Graded g) → Unmeetable (base_at i)
 
-  -- the run before place i, on so many rows: there is only one of its length
-  pub record RunAt (rows i : ℕ) (settled : runs.Settled G) : Type 0 where
+  -- the run before place i: there is only one of its length
+  pub record RunAt (i : ℕ) (settled : runs.Settled G) : Type 0 where
     pub run : Run a (base_at i) settled
     pub count : length settled ≡ (before calls outcomes i).settled
     pub only : (other : runs.Settled G) → Run a (base_at i) other → length other ≡ (before calls outcomes i).settled → other ≡ settled
@@ -65,7 +64,7 @@ module _ {G : Type 0} (a : Algebra G) (calls : List (Call G)) (outcomes : List (
   -- ask says nothing exactly when the run stands ended and what was accepted gives no derivation
   abbrev pub NothingIsExact : ℕ → Type 0
   NothingIsExact rows = (i : ℕ) (x : Statement) (said : Answer G) → Told i x said →
-      (settled : runs.Settled G) × RunAt rows i settled × ((said ≡ Nothing) ↔ (Stands a (base_at i) rows settled Ended × Underivable a (base_at i) x))
+      (settled : runs.Settled G) × RunAt i settled × ((said ≡ Nothing) ↔ (Stands a (base_at i) rows settled Ended × Underivable a (base_at i) x))
 
   module _ (steps : List (Step G)) where
     -- the steps that an explanation of so many wrote at place j

@@ -3,7 +3,7 @@ ghost use Rattle.std.specs.Prelude.{◌≡◌, ℕ, ◌<◌, ◌≤◌, min, len
 ghost use Rattle.saturation.specs.Tables.{view, capacity, OverSame};
 ghost use Rattle.reasoner.specs.Calls.{Unchanged};
 ghost use Rattle.replay.specs.Pasts.{steps_of};
-ghost use Rattle.replay.specs.Replays.{rows_in, Replayed, GradesAreBest, GradesAreExplained, ExplanationsPass, NothingIsExact, ContradictionExcludes};
+ghost use Rattle.replay.specs.Replays.{rows_in, Replayed, GradesAreBest, GradesAreExplained, ExplanationsPass, NothingIsExact, GradedContradictionExcludes};
 ghost use Rattle.replay.specs.Performing.{ExplainsWithin, Performs, Performed};
 
 use crate::call::{Call, Done};
@@ -29,7 +29,7 @@ pub fn replay<K: Kind>(
     ensures explained { GradesAreExplained (K.Kind.algebra kind.now) calls.now outcomes.new result steps.new }
     ensures passes { ExplanationsPass (K.Kind.algebra kind.now) calls.now outcomes.new result steps.new }
     ensures nothing { NothingIsExact (K.Kind.algebra kind.now) calls.now outcomes.new result (rows_in rows.old grades.old) }
-    ensures excludes { ContradictionExcludes (K.Kind.algebra kind.now) calls.now outcomes.new result }
+    ensures excludes { GradedContradictionExcludes (K.Kind.algebra kind.now) calls.now outcomes.new result }
 {
     let mut reasoner = Table::make(rows, grades);
     perform_all(&mut reasoner, kind, calls, outcomes, steps)

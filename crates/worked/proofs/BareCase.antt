@@ -16,8 +16,7 @@ use Rattle.saturation.specs.Tables.{view, capacity}
 use Rattle.saturation.proofs.Offers.{below_or}
 use Rattle.reasoner.specs.declared.asking.Answer.{Answer}
 use Rattle.reasoner.specs.declared.asking.Answer.TheVariants.{Graded, Nothing, Pending}
-use Rattle.reasoner.specs.Models.{StandsFor, Holding, going, standing}
-use Rattle.reasoner.specs.Calls.{after}
+use Rattle.reasoner.proofs.Holding.{holding_after}
 use Rattle.reasoner.specs.Asking.{Says}
 use Rattle.replay.specs.declared.call.Done.TheVariants.{Began, Settled, Said}
 use Rattle.replay.specs.Pasts.{Outcome, outcome_at}
@@ -58,25 +57,16 @@ module _ {G : Type 0} (a : Algebra G) (laws : Laws a) where
         told_by_places os bare_refused long (first.0, (second.0, (third, tt)))
 
     performed : (count : ℕ) (how : Stand) (said : Answer G) → 4 ≤ capacity (view new) → ComesTo a bare (capacity (view new)) 10 count how →
-        ((t : Table G) (l : runs.Settled G) → StandsFor a (after bare l how) t → Holding a bare t l) →
         ((l : runs.Settled G) (rows : ℕ) → Unsettled l contradiction → Stands a bare rows l how → (other : Answer G) → Says a bare l rows contradiction other → other ≡ said) →
         Performed a bare_calls os new steps 3 last left → os ≡ Ok Began ∷ Ok (Settled count how) ∷ Ok (Said said) ∷ []
-    performed count how said room comes holding only (one_more (one_more {u = t2} (one_more {u = t1} none r0 l0 k0 h0) r1 l1 k1 h1) r2 l2 k2 h2) =
+    performed count how said room comes only (one_more (one_more {u = t2} (one_more {u = t1} none r0 l0 k0 h0) r1 l1 k1 h1) r2 l2 k2 h2) =
         let first = begun a new t1 (outcome_at os 0) _ _ (sizes 1 2 0 0) least_in_range (omega (arith, four_tautologies)) h0 in
         let here : ComesTo a bare (capacity (view t1)) 10 count how = subst (λ (rows : ℕ). ComesTo a bare rows 10 count how) (sym r0) comes in
         let second = settled a t1 t2 (outcome_at os 1) _ _ bare first.1 10 count how (λ later stand s st. (here.settles later s, here.stands later stand s st)) h1 in
         let w = second.1 in
         let stood : Stands a bare (capacity (view t2)) w.0 how = subst (λ (rows : ℕ). Stands a bare rows w.0 how) (sym r1) w.2 in
-        let third = asked a t2 last (outcome_at os 2) _ _ laws bare w.0 (holding t2 w.0 w.3) contradiction (lit< tt, lit< tt, lit< tt, lit< tt, lit< tt) said (only w.0 (capacity (view t2)) (here.consistent w.0 w.1) stood) h2 in
+        let third = asked a t2 last (outcome_at os 2) _ _ laws bare w.0 (holding_after a bare t2 w.0 how w.3) contradiction (lit< tt, lit< tt, lit< tt, lit< tt, lit< tt) said (only w.0 (capacity (view t2)) (here.consistent w.0 w.1) stood) h2 in
         told_by_places os _ long (first.0, (second.0, (third, tt)))
-
-  -- an ended run goes on being held, and so does a full one
-  module _ (t : Table G) (l : runs.Settled G) where
-    held_ended : StandsFor a (after bare l Ended) t → Holding a bare t l
-    held_ended h = going h
-
-    held_full : StandsFor a (after bare l Full) t → Holding a bare t l
-    held_full h = standing h
 
   -- the outcomes by where the number of rows lies
   abbrev said_by : Bool → Bool → Bool → List (Outcome G)
@@ -98,11 +88,11 @@ module _ {G : Type 0} (a : Algebra G) (laws : Laws a) where
       (many : capacity (view new) ≡ rows) (long : length os ≡ 3) (done : Performed a bare_calls os new steps 3 last left) where
     full : (count : ℕ) → 4 ≤ rows → ComesTo a bare rows 10 count Full → os ≡ bare_full count
     full count room comes =
-        performed new last os steps left asleep long count Full Pending (omega arith) (subst (λ (n : ℕ). ComesTo a bare n 10 count Full) (sym many) comes) held_full only_pending done
+        performed new last os steps left asleep long count Full Pending (omega arith) (subst (λ (n : ℕ). ComesTo a bare n 10 count Full) (sym many) comes) only_pending done
 
     ended : 7 ≤ rows → os ≡ bare_ended
     ended room =
-        performed new last os steps left asleep long 7 Ended Nothing (omega arith) (subst (λ (n : ℕ). ComesTo a bare n 10 7 Ended) (sym many) (facts.seven rows room)) held_ended only_nothing done
+        performed new last os steps left asleep long 7 Ended Nothing (omega arith) (subst (λ (n : ℕ). ComesTo a bare n 10 7 Ended) (sym many) (facts.seven rows room)) only_nothing done
 
     exactly : (n count : ℕ) → 4 ≤ n → rows ≡ n → ComesTo a bare n 10 count Full → bare_outcomes {G = G} n ≡ bare_full count → os ≡ bare_outcomes rows
     exactly n count room e comes is = full count (omega arith) (subst (λ (m : ℕ). ComesTo a bare m 10 count Full) (sym e) comes) ∙ sym is ∙ ap bare_outcomes (sym e)

@@ -1,7 +1,6 @@
 -- The bases of the worked cases, and what their runs come to.
-use Rattle.std.specs.Prelude.{◌≡◌, ℕ, ◌≤◌, List, [], ◌∷◌, length}
+use Rattle.std.specs.Prelude.{◌≡◌, ℕ, ◌≤◌, [], length}
 use Rattle.std.proofs.Common.{lit≤}
-use Rattle.standpoint.specs.declared.statement.Statement.{Statement}
 use Rattle.standpoint.specs.declared.kinds.grades.TallyGrade.{TallyGrade}
 use Rattle.standpoint.specs.Algebra.{Algebra}
 use Rattle.standpoint.specs.Grades.{tally_grade}
@@ -10,16 +9,12 @@ use Rattle.standpoint.specs.Derivations.{Base}
 use Rattle.runs.specs.declared.Stand.{Stand}
 use Rattle.runs.specs.declared.Stand.TheVariants.{Ended, Full}
 use Rattle.runs.specs.Runs.{Settled, Unsettled, Stands, Settling}
-
-abbrev pub based : {G : Type 0} → ℕ → ℕ → ℕ → ℕ → List (Statement × G) → Base G
-based standpoints concepts roles individuals accepted = record {
-  sizes = record { standpoints = standpoints; concepts = concepts; roles = roles; individuals = individuals };
-  accepted = accepted;
-}
+use Rattle.reasoner.specs.Models.{empty_base, accepting}
+use Rattle.worked.specs.Lists.{sizes}
 
 -- nothing is accepted, with one standpoint and two concepts
 abbrev pub bare : {G : Type 0} → Base G
-bare = based 1 2 0 0 []
+bare = empty_base (sizes 1 2 0 0)
 
 -- settling n times from the beginning settles so many, after which the run stands so, and the contradiction is not settled
 pub record ComesTo {G : Type 0} (a : Algebra G) (base : Base G) (rows n count : ℕ) (how : Stand) : Type 0 where
@@ -36,9 +31,10 @@ pub record BareOnRows {G : Type 0} (a : Algebra G) : Type 0 where
 
 -- an individual is throughout what nothing is, at these two grades
 abbrev pub clash : {G : Type 0} → G → G → Base G
-clash g h = based 1 4 0 1 ((nested_inclusion 0 0 0 3 1, h) ∷ (nested_inclusion 0 2 0 0 3, g) ∷ [])
+clash g h = accepting (accepting (empty_base (sizes 1 4 0 1)) (nested_inclusion 0 2 0 0 3) g) (nested_inclusion 0 0 0 3 1) h
 
 -- a sharpening at 5, and by way of another standpoint at 1 and 1
 abbrev pub detour : Base TallyGrade
 detour =
-    based 4 2 0 0 ((sharper 3 2, tally_grade 1 (lit≤ tt)) ∷ (sharper 1 3, tally_grade 1 (lit≤ tt)) ∷ (sharper 1 2, tally_grade 5 (lit≤ tt)) ∷ [])
+    accepting (accepting (accepting (empty_base (sizes 4 2 0 0)) (sharper 1 2) (tally_grade 5 (lit≤ tt))) (sharper 1 3) (tally_grade 1 (lit≤ tt)))
+    (sharper 3 2) (tally_grade 1 (lit≤ tt))

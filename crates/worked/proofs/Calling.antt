@@ -27,10 +27,10 @@ use Rattle.saturation.specs.Phases.{is_begun, is_sealed, sizes_of}
 use Rattle.saturation.specs.Tables.{view, capacity}
 use Rattle.reasoner.specs.declared.asking.Answer.{Answer}
 use Rattle.reasoner.specs.Models.{based, empty_base, accepting, StandsFor, Holding}
-use Rattle.reasoner.specs.Calls.{AddRefused, before_begin, after_settle, misfit, individual, no_row, AllRowsTaken, after}
+use Rattle.reasoner.specs.Calls.{AddRefused, before_begin, after_settle, misfit, individual, no_row, AllRowsTaken, model_after}
 use Rattle.reasoner.specs.Asking as asking
 use Rattle.reasoner.specs.Asking.{AskRefused, Says}
-use Rattle.reasoner.proofs.Holding.{held}
+use Rattle.reasoner.proofs.Holding.{held, refused_misfit}
 use Rattle.replay.specs.declared.call.Call.TheVariants.{Begin, Add, Settle, Ask}
 use Rattle.replay.specs.declared.call.Done.TheVariants.{Began, Added, Settled, Said}
 use Rattle.replay.specs.Pasts.{Outcome}
@@ -73,10 +73,6 @@ module _ {G : Type 0} (a : Algebra G) where
   only_begun s x _ asleep (asking.before_begin f) = refl
   only_begun s x _ asleep (asking.misfit f unfit) = absurd (both_ways _ asleep f)
 
-  ask_refused_not : (s : Table G) (b : Base G) (l : runs.Settled G) → Holding a b s l → (x : Statement) → Fits b.sizes x → (e : Refusal) → AskRefused s x e → ⊥
-  ask_refused_not s b l holding x fits _ (asking.before_begin f) = both_ways _ f (held holding).begun
-  ask_refused_not s b l holding x fits _ (asking.misfit f unfit) = unfit (subst (λ (n : Sizes). Fits n x) (sym (held holding).sizes) fits)
-
   module _ (s t : Table G) (o : Outcome G) (old new : List (Step G)) where
     pub begun : (n : Sizes) → InRange n → length (tautologies n) ≤ capacity (view s) → Performs a (Begin n) o s t old new →
         (o ≡ Ok Began) × StandsFor a (based (empty_base n)) t
@@ -98,12 +94,12 @@ module _ {G : Type 0} (a : Algebra G) where
     pub settled : (b : Base G) → StandsFor a (based b) s → (n count : ℕ) (how : Stand) →
         ((later : runs.Settled G) (stand : Stand) → Settling a b (capacity (view s)) n [] later → Stands a b (capacity (view s)) later stand → (length later ≡ count) × (stand ≡ how)) →
         Performs a (Settle n) o s t old new →
-        (o ≡ Ok (Settled count how)) × ((later : runs.Settled G) × Settling a b (capacity (view s)) n [] later × Stands a b (capacity (view s)) later how × StandsFor a (after b later how) t)
+        (o ≡ Ok (Settled count how)) × ((later : runs.Settled G) × Settling a b (capacity (view s)) n [] later × Stands a b (capacity (view s)) later how × StandsFor a (model_after b later how) t)
     settled b stands n count how comes (same, (Ok r, is, made)) =
         let w = made.1 b stands in
         let c = comes w.0 r.1 w.1.1.0 w.1.1.1.0 in (
           is ∙ ap (λ (m : ℕ). Ok (Settled m r.1)) (sym w.1.0 ∙ c.0) ∙ ap (λ (k : Stand). Ok (Settled count k)) c.1,
-          (w.0, w.1.1.0, subst (λ (k : Stand). Stands a b (capacity (view s)) w.0 k) c.1 w.1.1.1.0, subst (λ (k : Stand). StandsFor a (after b w.0 k) t) c.1 w.1.1.1.1),
+          (w.0, w.1.1.0, subst (λ (k : Stand). Stands a b (capacity (view s)) w.0 k) c.1 w.1.1.1.0, subst (λ (k : Stand). StandsFor a (model_after b w.0 k) t) c.1 w.1.1.1.1),
         )
     settled b stands n count how comes (same, (Err e, is, made)) = absurd (both_ways _ made.2 (ap is_begun stands.0))
 
@@ -112,11 +108,11 @@ module _ {G : Type 0} (a : Algebra G) where
     settle_refused n asleep (same, (Err e, is, made)) = (is ∙ ap (λ (r : Refusal). Err r) made.1, made.0.1)
 
     pub ask_refused : (x : Statement) → is_begun s.phase ≡ false → Performs a (Ask x) o s t old new → o ≡ Err NotBegun
-    ask_refused x asleep (same, unchanged, (Ok said, is, told)) = absurd (both_ways _ asleep told.0)
+    ask_refused x asleep (same, unchanged, (Ok said, is, told)) = absurd (both_ways _ asleep told.0.begun)
     ask_refused x asleep (same, unchanged, (Err e, is, refused)) = is ∙ ap (λ (r : Refusal). Err r) (only_begun s x e asleep refused)
 
     -- only one answer says what holds
     pub asked : Laws a → (b : Base G) (l : runs.Settled G) → Holding a b s l → (x : Statement) → Fits b.sizes x → (said : Answer G) →
         ((other : Answer G) → Says a b l (capacity (view s)) x other → other ≡ said) → Performs a (Ask x) o s t old new → o ≡ Ok (Said said)
-    asked laws b l holding x fits said only (same, unchanged, (Ok other, is, told)) = is ∙ ap (λ (r : Answer G). Ok (Said r)) (only other (told.2 a laws b l holding))
-    asked laws b l holding x fits said only (same, unchanged, (Err e, is, refused)) = absurd (ask_refused_not s b l holding x fits e refused)
+    asked laws b l holding x fits said only (same, unchanged, (Ok other, is, told)) = is ∙ ap (λ (r : Answer G). Ok (Said r)) (only other (told.1 a laws b l holding))
+    asked laws b l holding x fits said only (same, unchanged, (Err e, is, refused)) = absurd ((refused_misfit (held holding) x refused).1 fits)

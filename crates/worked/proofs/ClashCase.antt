@@ -1,5 +1,5 @@
 -- The calls over a base that clashes.
-use Rattle.std.proofs.Common.{◌≡◌, ℕ, ◌≤◌, length, refl, inl, inr, lit<, lit≤, arith}
+use Rattle.std.proofs.Common.{◌≡◌, ℕ, ◌≤◌, length, refl, lit<, lit≤, arith}
 use Rattle.standpoint.specs.Sizes.{InRange}
 use Rattle.standpoint.specs.Statements.{nested_inclusion, contradiction, Misplaced}
 use Rattle.standpoint.specs.Tautologies.{tautologies}
@@ -25,18 +25,10 @@ eight_tautologies = refl
 
 -- the individual stands where it may, and there is none elsewhere
 first_right : Misplaced 1 (nested_inclusion 0 2 0 0 3) → ⊥
-first_right (inl m) = m
-first_right (inr (inl m)) = m.0 refl
-first_right (inr (inr (inl m))) = m
-first_right (inr (inr (inr (inl m)))) = let low = m.0 in omega arith
-first_right (inr (inr (inr (inr m)))) = let high = m.1 in omega arith
+first_right m = grind arith
 
 second_right : Misplaced 1 (nested_inclusion 0 0 0 3 1) → ⊥
-second_right (inl m) = m
-second_right (inr (inl m)) = m.0 refl
-second_right (inr (inr (inl m))) = m
-second_right (inr (inr (inr (inl m)))) = let high = m.1 in omega arith
-second_right (inr (inr (inr (inr m)))) = let low = m.0 in omega arith
+second_right m = grind arith
 
 module _ {G : Type 0} (a : Algebra G) (laws : Laws a) (g h j : G) (ends : EndsAt a (clash g h) 47) (best : BestGrade a (clash g h) contradiction j) where
   pub clash_case : (rows : ℕ) → 47 ≤ rows → ComeTo a rows (clash_calls g h) (clash_outcomes j)

@@ -1,5 +1,5 @@
 -- The calls over a base where a derivation is better than an accepted grade.
-use Rattle.std.proofs.Common.{◌≡◌, ℕ, ◌≤◌, length, refl, inl, inr, lit<, lit≤, arith}
+use Rattle.std.proofs.Common.{◌≡◌, ℕ, ◌≤◌, length, refl, lit<, lit≤, arith}
 use Rattle.standpoint.specs.declared.kinds.grades.TallyGrade.{TallyGrade}
 use Rattle.standpoint.specs.Sizes.{InRange}
 use Rattle.standpoint.specs.Statements.{sharper, Misplaced}
@@ -27,11 +27,7 @@ ten_tautologies = refl
 
 -- a sharpening names no concept
 right : (s u : ℕ) → Misplaced 0 (sharper s u) → ⊥
-right s u (inl m) = m
-right s u (inr (inl m)) = m.1
-right s u (inr (inr (inl m))) = m
-right s u (inr (inr (inr (inl m)))) = m
-right s u (inr (inr (inr (inr m)))) = m
+right s u m = grind arith
 
 pub detour_case : (rows : ℕ) → 106 ≤ rows → ComeTo tally rows detour_calls detour_outcomes
 detour_case rows room new last os steps left asleep many long

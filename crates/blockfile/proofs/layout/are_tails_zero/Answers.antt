@@ -1,6 +1,7 @@
 use Rattle.std.proofs.Common.{refl, rules, tests, arith}
 use Rattle.std.proofs.lemmas.Iterator.{cases_from_all, YieldsList-from_range}
-use Rattle.blockfile.proofs.Chunks.{Tail, tails_tell}
+use Rattle.blockfile.specs.Layout.{Tail}
+use Rattle.blockfile.proofs.Chunks.{tails_tell}
 use Rattle.blockfile.proofs.layout.are_tails_zero.Goals as goal
 
 pub returns : goal.returns

@@ -1,7 +1,6 @@
-use Rattle.std.proofs.Common.{◌≡◌, ℕ, true, Err, refl, sym, ap, ◌∙◌, subst, arith}
+use Rattle.std.proofs.Common.{◌≡◌, true, Err, refl, sym, ap, ◌∙◌, subst, arith}
 use Rattle.standpoint.specs.declared.sizes.Sizes.{Sizes}
 use Rattle.standpoint.specs.declared.refusal.Refusal.TheVariants.{RowsTaken}
-use Rattle.standpoint.specs.Refusals.{number_of}
 use Rattle.standpoint.specs.Statements.{Fits}
 use Rattle.saturation.specs.Phases.{is_begun, is_sealed, sizes_of}
 use Rattle.saturation.specs.Tables.{view}
@@ -11,19 +10,19 @@ use Rattle.reasoner.proofs.Adding.{accepted_more, taken_all}
 use Rattle.reasoner.proofs.calls.add.Goals as goal
 
 pub returns-in-Idle-clause-answer : goal.returns-in-Idle-clause-answer
-returns-in-Idle-clause-answer g c = ((refl, refl), before_begin (ap is_begun c.in-Idle.is), λ b h e. let n : ◌≡◌ {A = ℕ} 1 7 = ap number_of e in absurd (let z : ⊥ = omega arith in z))
+returns-in-Idle-clause-answer g c = ((refl, refl), before_begin (ap is_begun c.in-Idle.is), λ b h e. absurd (grind arith))
 
 pub returns-in-Full-clause-answer : goal.returns-in-Full-clause-answer
 returns-in-Full-clause-answer g c =
     let sealed : is_sealed c.args.reasoner.now.phase ≡ true = grind arith in
-    ((refl, refl), after_settle sealed, λ b h e. let n : ◌≡◌ {A = ℕ} 6 7 = ap number_of e in absurd (let z : ⊥ = omega arith in z))
+    ((refl, refl), after_settle sealed, λ b h e. absurd (grind arith))
 
 pub returns-then-not-fits-clause-answer : goal.returns-then-not-fits-clause-answer
-returns-then-not-fits-clause-answer g c = ((refl, refl), misfit c.in-Taking.is c.if-not-fits.ensures, λ b h e. let n : ◌≡◌ {A = ℕ} 4 7 = ap number_of e in absurd (let z : ⊥ = omega arith in z))
+returns-then-not-fits-clause-answer g c = ((refl, refl), misfit c.in-Taking.is c.if-not-fits.ensures, λ b h e. absurd (grind arith))
 
 pub returns-then-misplaced-clause-answer : goal.returns-then-misplaced-clause-answer
 returns-then-misplaced-clause-answer g c =
-    ((refl, refl), individual c.in-Taking.is c.if-not-fits.ensures c.if-misplaced.ensures, λ b h e. let n : ◌≡◌ {A = ℕ} 5 7 = ap number_of e in absurd (let z : ⊥ = omega arith in z))
+    ((refl, refl), individual c.in-Taking.is c.if-not-fits.ensures c.if-misplaced.ensures, λ b h e. absurd (grind arith))
 
 pub returns-clause-answer : goal.returns-clause-answer
 returns-clause-answer g c =
