@@ -1,5 +1,5 @@
 -- The loops of a search find each offer that uses the newest settled statement.
-use Rattle.std.proofs.Common.{◌≡◌, ◌≢◌, ℕ, ◌+◌, ◌<◌, ◌≤◌, Bool, true, false, ◌==◌, cond, List, [], ◌∷◌, length, None, sym, refl, ◌∙◌, inl, inr, ⊎_elim, arith}
+use Rattle.std.proofs.Common.{◌≡◌, ◌≢◌, ℕ, ◌+◌, ◌<◌, ◌≤◌, Bool, true, false, ◌==◌, cond, List, [], ◌∷◌, length, None, sym, refl, ap, ◌∙◌, subst, inl, inr, ⊎_elim, arith}
 use Rattle.std.proofs.lemmas.Bool.Decides.{nat_tests}
 use Rattle.standpoint.specs.declared.statement.Statement.{Statement}
 use Rattle.standpoint.specs.Lists.{In}
@@ -9,13 +9,13 @@ use Rattle.saturation.specs.declared.places.Position.{Position}
 use Rattle.saturation.specs.declared.places.Position.TheVariants.{First, Second, Third}
 use Rattle.saturation.specs.declared.lane.Lane.{Lane}
 use Rattle.saturation.specs.Sides.{settled_at}
-use Rattle.saturation.specs.Lanes.{Within, partners, last_lane}
+use Rattle.saturation.specs.Lanes.{Within, when, takes, beside, partners, last_lane}
 use Rattle.saturation.specs.Tables.{State, statement_at, turn_at}
 use Rattle.saturation.specs.Places.{Step, Uses}
 use Rattle.saturation.specs.Searching.{Went, OnLane, paired, arranged, Lasts, Around, SettledPlaces}
 use Rattle.saturation.proofs.Lists.{Fit}
 use Rattle.saturation.proofs.Numbering.{nth_position}
-use Rattle.saturation.proofs.Stepping.{step_long, step_few}
+use Rattle.saturation.proofs.Stepping.{step_long, step_few, value_at}
 use Rattle.saturation.proofs.Walking.{From, within_listed}
 use Rattle.saturation.proofs.Partners.{At, partner_found, last_found}
 use Rattle.saturation.proofs.Searches.{Family, Below, went_as, went_more, went_none}
@@ -141,6 +141,17 @@ module _ {G : Type 0} (al : Algebra G) (v : ℕ) where
         around_as s t lane i (LastsOf i) (Using n) r
         (λ l o. ⊎_elim (λ w. absurd (several (alone_long l o w))) (⊎_elim (λ w. absurd (more (pair_long i l o w))) (λ w. w)))
         (λ l o w. w)
+
+    -- where the rule does not take its shape there, nothing is given
+    pub went_untaken : (s : State G) (x : Statement) → n < s.settled → x ≡ statement_at s (turn_at s n) → takes rule position x.shape ≡ false → Went al v s s Beside (Using n) true
+    went_untaken s x in_n is_x off =
+        went_none al v s Beside (Using n) (λ l is o b.
+        let p = partner_found al v rule l o n x (λ d. sym (is_x ∙ (is.holds n in_n d).0)) position b.0 b.1 b.2 in
+        let on = subst (λ (taken : Bool). OnLane (when taken (beside rule position n x)) l p.0) off p.1 in
+        on.1 (value_at l p.0 on.0).0)
+
+    pub partners_taken : (x : Statement) → takes rule position x.shape ≡ true → beside rule position n x ≡ partners rule position n x
+    partners_taken x on = ap (λ (taken : Bool). when taken (beside rule position n x)) (sym on)
 
     -- the walk along the lane of the partners has ended
     pub went_partners : (s t : State G) (x : Statement) → n < s.settled → x ≡ statement_at s (turn_at s n) →

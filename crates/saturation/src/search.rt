@@ -6,7 +6,8 @@ ghost use Rattle.saturation.specs.Places.{Uses};
 ghost use Rattle.saturation.specs.Searching.{OnLane, Went, Lasts, Around};
 
 use crate::attempt::Inference;
-use crate::lane::{Lane, last_lane, partners};
+use crate::joins::{beside, last_lane, takes};
+use crate::lane::Lane;
 use crate::places::{Places, Position};
 use crate::rows::NoRow;
 use crate::table::Table;
@@ -83,7 +84,10 @@ impl<'a, G: Copy> Table<'a, G> {
                 rule,
             };
             for position in Position::ALL {
-                let lane = partners(rule, position, newest, x);
+                if !takes(rule, position, x.shape) {
+                    continue;
+                }
+                let lane = beside(rule, position, newest, x);
                 let mut at = self.last_along(lane);
                 while let Some(i) = at {
                     outcome = self.around(&inference, position, newest, lane, i);

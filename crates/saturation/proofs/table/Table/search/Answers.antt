@@ -11,7 +11,7 @@ use Rattle.saturation.proofs.Lists.{statement_kept}
 use Rattle.saturation.proofs.Sameness.{same_then}
 use Rattle.saturation.proofs.Searches.{Below, went_start, went_more, went_stopped}
 use Rattle.saturation.proofs.Walking.{From, walk_start, walk_next}
-use Rattle.saturation.proofs.Enumerating.{AroundAt, Placed, Ruled, Using, went_partners, went_unruled, went_rule, went_all}
+use Rattle.saturation.proofs.Enumerating.{AroundAt, Placed, Ruled, Using, went_partners, went_untaken, partners_taken, went_unruled, went_rule, went_all}
 use Rattle.saturation.proofs.table.Table.search.Goals as goal
 
 pub search-init : goal.search-init
@@ -30,12 +30,12 @@ loop-at-init g c =
     let t = view c.loop-position.self in
     let n = c.args.newest in
     let F = AroundAt al v (number_of_rule (nth_rule c.search.rule-index)) (nth_position c.loop-position.position-index) n in
-    (c.loop-position.invariant.0, (refl, refl, refl), walk_start al v c.partners-lane.result F (Using al v n) t c.last_along-at.result c.last_along-at.ensures)
+    (c.loop-position.invariant.0, (refl, refl, refl), walk_start al v c.beside-lane.result F (Using al v n) t c.last_along-at.result c.last_along-at.ensures)
 
 pub loop-at-smaller : goal.loop-at-smaller
 loop-at-smaller g c =
     let u = c.around-outcome.new.self in
-    let lane = c.partners-lane.result in
+    let lane = c.beside-lane.result in
     link_falls (track u.rows.now lane) (lane_bucket u.rows.now lane) c.loop-at.at c.in-Some.i c.next_along-at.result c.in-Some.is c.next_along-at.ensures
 
 pub loop-at-preserved : goal.loop-at-preserved
@@ -49,8 +49,25 @@ loop-at-preserved g c =
     let inv = c.loop-at.invariant in (
       on,
       same_then inv.1 c.around-outcome.ensures.same,
-      walk_next al v c.partners-lane.result F (Using al v n) (view t) (view c.loop-at.self) (view c.around-outcome.new.self) c.loop-at.at c.in-Some.i c.next_along-at.result (is_ok c.around-outcome.result) (t.settled_fit, t.turns) c.in-Some.is c.next_along-at.ensures on inv.2 c.around-outcome.ensures.state,
+      walk_next al v c.beside-lane.result F (Using al v n) (view t) (view c.loop-at.self) (view c.around-outcome.new.self) c.loop-at.at c.in-Some.i c.next_along-at.result (is_ok c.around-outcome.result) (t.settled_fit, t.turns) c.in-Some.is c.next_along-at.ensures on inv.2 c.around-outcome.ensures.state,
     )
+
+pub loop-position-preserved-then-not-takes : goal.loop-position-preserved-then-not-takes
+loop-position-preserved-then-not-takes g c =
+    let al = g.K.Kind.algebra c.args.kind.now in
+    let v = c.args.individuals in
+    let r = c.args.self.now in
+    let s = c.search.self in
+    let t = c.loop-position.self in
+    let n = c.args.newest in
+    let p = c.loop-position.position-index in
+    let rule = number_of_rule (nth_rule c.search.rule-index) in
+    let inv = c.loop-position.invariant in
+    let grown = grown_trans c.search.invariant.2.grown inv.2.grown in
+    let still = grown.settled in
+    let is_x = c.settled_statement-x.ensures ∙ sym (statement_kept (view r) (view t) (r.settled_fit, r.turns) grown n c.requires) in
+    let made = went_untaken al v rule (nth_position p) n (view t) c.settled_statement-x.result (omega arith) is_x (sym c.if-not-takes.ensures) in
+    (inv.0, inv.1, went_more al v (view s) (view t) (view t) (Placed al v rule n) (Using al v n) p true (s.settled_fit, s.turns) inv.2 made)
 
 pub loop-position-preserved : goal.loop-position-preserved
 loop-position-preserved g c =
@@ -68,9 +85,10 @@ loop-position-preserved g c =
     let F = AroundAt al v rule (nth_position p) n in
     let grown = grown_trans c.search.invariant.2.grown out.2.grown in
     let still = grown.settled in
+    let taken = sym c.if-not-takes.ensures in
     let is_x = c.settled_statement-x.ensures ∙ sym (statement_kept (view r) (view t) (r.settled_fit, r.turns) grown n c.requires) in
-    let walked = subst (λ (at : Option ℕ). Went al v (view t) m (From c.partners-lane.result F at) (Using al v n) true) c.in_default.is inv.2.1 in
-    let made = went_partners al v rule (nth_position p) n (view t) m c.settled_statement-x.result (omega arith) is_x (subst (λ (lane : Lane). Went al v (view t) m (From lane F None) (Using al v n) true) c.partners-lane.ensures walked) in
+    let walked = subst (λ (at : Option ℕ). Went al v (view t) m (From c.beside-lane.result F at) (Using al v n) true) c.in_default.is inv.2.1 in
+    let made = went_partners al v rule (nth_position p) n (view t) m c.settled_statement-x.result (omega arith) is_x (subst (λ (lane : Lane). Went al v (view t) m (From lane F None) (Using al v n) true) (c.beside-lane.ensures ∙ partners_taken al v rule (nth_position p) n c.settled_statement-x.result taken) walked) in
     (inv.0, same_then out.1 inv.1, went_more al v (view s) (view t) m (Placed al v rule n) (Using al v n) p true (s.settled_fit, s.turns) out.2 made)
 
 pub search-preserved : goal.search-preserved
@@ -115,7 +133,7 @@ returns-then-is_err-clause-state g c =
     let rule = number_of_rule (nth_rule k) in
     let F = AroundAt al v rule (nth_position p) c.args.newest in
     let U = Using al v c.args.newest in
-    let lane = c.partners-lane.result in
+    let lane = c.beside-lane.result in
     let off = c.if-is_err.ensures.negation in
     let here = went_stopped al v (view t) (view c.loop-at.self) u (From lane F c.loop-at.at) (λ l o. OnLane lane l c.in-Some.i × F c.in-Some.i l o) U U true (is_ok c.around-outcome.result) (t.settled_fit, t.turns) refl off c.loop-at.invariant.2.1 c.around-outcome.ensures.state in
     let ruled = went_stopped al v (view s) (view t) u (Below (Placed al v rule c.args.newest) p) U U U true false (s.settled_fit, s.turns) refl refl c.loop-position.invariant.2 here in
