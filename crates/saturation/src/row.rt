@@ -48,25 +48,26 @@ impl Chain {
 }
 
 // A statement with the step that gave its grade.
+// Fields that are read together stand together.
 #[derive(Clone, Copy)]
 pub struct Row {
     pub statement: Statement,
-    pub kept: Kept,
     // The settling place, from 0; none while unsettled.
     pub place: Option<usize>,
-    // A column of its own, since no memory but the lent rows is at hand: in the k-th row, from 0, the row that was settled k-th.
-    pub turn: usize,
-    // A column of its own: stands only while steps are written out.
-    pub mark: bool,
-    // A column of its own: in the k-th row, from 0, the winner below it, of the tournament over the taken rows.
-    pub winner: usize,
     // The taken rows, by statement.
     pub index: Chain,
+    // A column of its own: in the k-th row, from 0, the winner below it, of the tournament over the taken rows.
+    pub winner: usize,
+    // A column of its own, since no memory but the lent rows is at hand: in the k-th row, from 0, the row that was settled k-th.
+    pub turn: usize,
     // The settled statements, by settling place, each by its node on that side.
     pub source: Chain,
     pub target: Chain,
     pub inner: Chain,
     pub ending: Chain,
+    pub kept: Kept,
+    // A column of its own: stands only while steps are written out.
+    pub mark: bool,
 }
 
 impl Row {
