@@ -48,7 +48,7 @@ fn kept_step<G: Copy>(reasoner: &Table<'_, G>, k: usize) -> Kept
     requires { k < reasoner.now.settled }
     ensures { result ≡ kept_at (view reasoner.now) k }
 {
-    let at = reasoner.rows[k].turn;
+    let at = reasoner.rows[k].turn as usize;
     reasoner.rows[at].kept
 }
 

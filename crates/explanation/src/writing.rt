@@ -27,7 +27,7 @@ fn renumbered<G: Clone + Copy + Drop>(reasoner: &Table<'_, G>, k: usize) -> Step
     requires { (k < reasoner.now.settled) × RestsEarlier (view reasoner.now) k true }
     ensures { Renumbers (view reasoner.now) (mark_at (view reasoner.now)) k result }
 {
-    let at = reasoner.rows[k].turn;
+    let at = reasoner.rows[k].turn as usize;
     let row = reasoner.rows[at];
     Step {
         rule: row.kept.rule,

@@ -45,22 +45,23 @@ pub(crate) fn bucket_of(statement: Statement, buckets: usize) -> usize
 
 // Writes the next row, from then on the last of its bucket.
 pub(crate) fn enter(rows: &mut [Row], at: usize, row: Row, bucket: usize)
-    requires { (at < length rows.old) × (bucket < length rows.old) }
+    requires { (at < length rows.old) × (at < 16777215) × (bucket < length rows.old) }
     ensures { rows.new ≡ entered rows.old at row bucket }
 {
     rows[at] = row;
-    rows[bucket].index.head = at;
+    rows[bucket].index.head = at as u32;
 }
 
 impl<'a, G: Copy> Table<'a, G> {
     // The last taken row of a bucket, or none. A head counts only where it names a taken row of its own bucket, so that lent memory
     // need not be cleared first.
-    pub(crate) fn last_in(&self, bucket: usize) -> Option<usize>
+    pub(crate) fn last_in(&self, bucket: usize) -> Option<u32>
         requires { bucket < length self.now.rows.now }
         ensures { result ≡ last_in (bucket_at self.now.rows.now) bucket self.now.len }
     {
         let head = self.rows[bucket].index.head;
-        if head < self.len && bucket_of(self.rows[head].statement, self.rows.len()) == bucket {
+        let at = head as usize;
+        if at < self.len && bucket_of(self.rows[at].statement, self.rows.len()) == bucket {
             Some(head)
         } else {
             None

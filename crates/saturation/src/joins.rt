@@ -93,7 +93,7 @@ pub(crate) fn takes(rule: Rule, position: Position, shape: u8) -> bool
 }
 
 // The partners of the first premise x of a rule on inclusions: the second. By a rule with one premise, itself.
-fn inclusion_first(rule: Rule, newest: usize, x: Statement) -> Lane
+fn inclusion_first(rule: Rule, newest: u32, x: Statement) -> Lane
     ensures { result ≡ inclusion_first (number_of_rule rule) newest x }
 {
     let (t, b, s, c, d) = (x.first, x.second, x.third, x.fourth, x.fifth);
@@ -111,7 +111,7 @@ fn inclusion_first(rule: Rule, newest: usize, x: Statement) -> Lane
 }
 
 // The partners of the first premise x: itself where it is the only one, the second of two, or the third of three.
-fn beside_first(rule: Rule, newest: usize, x: Statement) -> Lane
+fn beside_first(rule: Rule, newest: u32, x: Statement) -> Lane
     ensures { result ≡ beside_first (number_of_rule rule) newest x }
 {
     match rule {
@@ -182,7 +182,7 @@ fn beside_third(rule: Rule, x: Statement) -> Lane
 
 // Where the partners of the newest premise x are: of the two others of three, that which is taken first. By a rule with one, the
 // newest is its own.
-pub(crate) fn beside(rule: Rule, position: Position, newest: usize, x: Statement) -> Lane
+pub(crate) fn beside(rule: Rule, position: Position, newest: u32, x: Statement) -> Lane
     ensures { result ≡ beside (number_of_rule rule) position newest x }
 {
     match position {

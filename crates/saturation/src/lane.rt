@@ -12,7 +12,7 @@ use standpoint::Statement;
 pub(crate) enum Lane {
     Nowhere,
     // This place alone.
-    Alone(usize),
+    Alone(u32),
     // With this node on this side.
     Along(Side, Statement),
     // The same, but in this standpoint alone: it is the first number.

@@ -34,9 +34,9 @@ impl Kept {
 #[derive(Clone, Copy)]
 pub struct Chain {
     // In the b-th row, from 0, the last place in bucket b; where there is none, whatever the memory held.
-    pub head: usize,
+    pub head: u32,
     // In the k-th row, from 0, the last place before the k-th in its bucket.
-    pub link: Option<usize>,
+    pub link: Option<u32>,
 }
 
 impl Chain {
@@ -48,18 +48,18 @@ impl Chain {
 }
 
 // A statement with the step that gave its grade.
-// Fields that are read together stand together.
+// Fields that are read together stand together, and numbers of rows take no more room than the most rows need.
 #[derive(Clone, Copy)]
 pub struct Row {
     pub statement: Statement,
     // The settling place, from 0; none while unsettled.
-    pub place: Option<usize>,
+    pub place: Option<u32>,
     // The taken rows, by statement.
     pub index: Chain,
     // A column of its own: in the k-th row, from 0, the winner below it, of the tournament over the taken rows.
-    pub winner: usize,
+    pub winner: u32,
     // A column of its own, since no memory but the lent rows is at hand: in the k-th row, from 0, the row that was settled k-th.
-    pub turn: usize,
+    pub turn: u32,
     // The settled statements, by settling place, each by its node on that side.
     pub source: Chain,
     pub target: Chain,

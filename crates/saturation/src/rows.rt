@@ -25,9 +25,9 @@ impl<'a, G: Copy> Table<'a, G> {
         }
         let mut at = self.last_in(bucket_of(statement, self.rows.len()));
         while let Some(k) = at {
-            let row = self.rows[k];
+            let row = self.rows[k as usize];
             if row.statement == statement {
-                return Some(k);
+                return Some(k as usize);
             }
             at = row.index.link;
         }
@@ -51,7 +51,7 @@ impl<'a, G: Copy> Table<'a, G> {
             kept,
             place: None,
             mark: false,
-            winner: at,
+            winner: at as u32,
             index: Chain {
                 head: free.index.head,
                 link: self.last_in(bucket),
@@ -89,7 +89,7 @@ impl<'a, G: Copy> Table<'a, G> {
         requires { k < self.now.settled }
         ensures { result ≡ statement_at (view self.now) (turn_at (view self.now) k) }
     {
-        self.rows[self.rows[k].turn].statement
+        self.rows[self.rows[k].turn as usize].statement
     }
 
     // The grade of the k-th settled statement.
@@ -97,6 +97,6 @@ impl<'a, G: Copy> Table<'a, G> {
         requires { k < self.now.settled }
         ensures { (d : G) → result ≡ slice_index_or self.now.grades.now (turn_at (view self.now) k) d }
     {
-        self.grades[self.rows[k].turn]
+        self.grades[self.rows[k].turn as usize]
     }
 }

@@ -33,6 +33,7 @@ impl<'a, G: Copy> Table<'a, G> {
         let lane = last_lane(inference.rule, position, x, y);
         let mut at = self.last_along(lane);
         while let Some(j) = at {
+            let j = j as usize;
             let places = position.arrange(inference.rule, newest, i, j);
             self.attempt_along(inference, lane, j, places)?;
             at = self.next_along(lane, j);
@@ -87,9 +88,10 @@ impl<'a, G: Copy> Table<'a, G> {
                 if !takes(rule, position, x.shape) {
                     continue;
                 }
-                let lane = beside(rule, position, newest, x);
+                let lane = beside(rule, position, newest as u32, x);
                 let mut at = self.last_along(lane);
                 while let Some(i) = at {
+                    let i = i as usize;
                     outcome = self.around(&inference, position, newest, lane, i);
                     if outcome.is_err() {
                         break 'search;

@@ -31,7 +31,7 @@ pub(crate) enum Side {
 #[derive(Clone, Copy)]
 pub(crate) struct Spot {
     pub bucket: usize,
-    pub last: Option<usize>,
+    pub last: Option<u32>,
 }
 
 fn source_of(x: Statement) -> Statement
@@ -151,8 +151,8 @@ impl Side {
 // Row i is settled k-th, and from then on the last in its bucket on each side.
 pub(crate) fn enter_settled(
     rows: &mut [Row],
-    k: usize,
-    i: usize,
+    k: u32,
+    i: u32,
     source: Spot,
     target: Spot,
     inner: Spot,
@@ -161,8 +161,8 @@ pub(crate) fn enter_settled(
     requires { (k < length rows.old) × (i < length rows.old) × (source.bucket < length rows.old) × (target.bucket < length rows.old) × (inner.bucket < length rows.old) × (ending.bucket < length rows.old) }
     ensures { rows.new ≡ settled_rows rows.old k i source target inner ending }
 {
-    rows[k] = linked(rows[k], i, source, target, inner, ending);
-    rows[i].place = Some(k);
+    rows[k as usize] = linked(rows[k as usize], i, source, target, inner, ending);
+    rows[i as usize].place = Some(k);
     rows[source.bucket].source.head = k;
     rows[target.bucket].target.head = k;
     rows[inner.bucket].inner.head = k;
@@ -170,7 +170,7 @@ pub(crate) fn enter_settled(
 }
 
 // A row with what it tells of a place: which row is settled there, and what is linked from it on each side.
-fn linked(row: Row, i: usize, source: Spot, target: Spot, inner: Spot, ending: Spot) -> Row
+fn linked(row: Row, i: u32, source: Spot, target: Spot, inner: Spot, ending: Spot) -> Row
     ensures { result ≡ turned row i source target inner ending }
 {
     Row {
@@ -218,12 +218,13 @@ impl<'a, G: Copy> Table<'a, G> {
     }
 
     // The last settled statement in a bucket of a side, or none. As with `last_in`, a head counts only where it names one.
-    fn last_on(&self, side: Side, bucket: usize) -> Option<usize>
+    fn last_on(&self, side: Side, bucket: usize) -> Option<u32>
         requires { bucket < length self.now.rows.now }
         ensures { result ≡ last_in (side_bucket side self.now.rows.now) bucket self.now.settled }
     {
         let head = self.chain(side, bucket).head;
-        if head < self.settled && self.side_bucket(side, head) == bucket {
+        let at = head as usize;
+        if at < self.settled && self.side_bucket(side, at) == bucket {
             Some(head)
         } else {
             None

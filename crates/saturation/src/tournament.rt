@@ -26,7 +26,7 @@ impl<'a, G: Copy> Table<'a, G> {
         ensures picked { Picked (view self.now) result }
         ensures first { (a : Algebra G) → Played a (view self.now) → Chosen a (view self.now) self.now.len result }
     {
-        let i = self.rows[0].winner;
+        let i = self.rows[0].winner as usize;
         let place = self.rows[i].place;
         if place.is_some() { None } else { Some(i) }
     }
@@ -66,7 +66,7 @@ impl<'a, G: Copy> Table<'a, G> {
         if k >= self.len {
             return i;
         }
-        let other = self.rows[k].winner;
+        let other = self.rows[k].winner as usize;
         if self.goes_first(kind, other, i) {
             other
         } else {
@@ -96,6 +96,6 @@ impl<'a, G: Copy> Table<'a, G> {
         ensures same { Same self.old self.new }
         ensures state { view self.new ≡ crowned (view self.old) k w }
     {
-        self.rows[k].winner = w;
+        self.rows[k].winner = w as u32;
     }
 }

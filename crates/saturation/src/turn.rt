@@ -55,13 +55,13 @@ impl<'a, G: Copy> Table<'a, G> {
         ensures same { Same self.old self.new }
         ensures state { view self.new ≡ settled_row (view self.old) i }
     {
-        let k = self.settled;
+        let k = self.settled as u32;
         let statement = self.rows[i].statement;
         let source = self.spot(Side::Source, Side::Source.node(statement));
         let target = self.spot(Side::Target, Side::Target.node(statement));
         let inner = self.spot(Side::Inner, Side::Inner.node(statement));
         let ending = self.spot(Side::Ending, Side::Ending.node(statement));
-        enter_settled(self.rows, k, i, source, target, inner, ending);
-        self.settled = k + 1;
+        enter_settled(self.rows, k, i as u32, source, target, inner, ending);
+        self.settled += 1;
     }
 }

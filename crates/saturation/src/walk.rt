@@ -12,22 +12,22 @@ use standpoint::shape::NESTED_INCLUSION;
 
 impl<'a, G: Copy> Table<'a, G> {
     // Where a walk back along a lane starts: at the last settled place of its chain, if there is one.
-    pub(crate) fn last_along(&self, lane: Lane) -> Option<usize>
+    pub(crate) fn last_along(&self, lane: Lane) -> Option<u32>
         requires { 0 < length self.now.rows.now }
         ensures { result ≡ last_in (track self.now.rows.now lane) (lane_bucket self.now.rows.now lane) self.now.settled }
     {
         match lane {
             Lane::Nowhere => None,
-            Lane::Alone(n) => (n < self.settled).then_some(n),
+            Lane::Alone(n) => ((n as usize) < self.settled).then_some(n),
             Lane::Along(side, node) | Lane::AlongIn(_, side, node) => self.spot(side, node).last,
             Lane::Only(side, x) => self.spot(side, side.node(x)).last,
             Lane::Necessary(node) => self.spot(Side::Target, node).last,
-            Lane::Outer(_) | Lane::Inside(_) => self.settled.checked_sub(1),
+            Lane::Outer(_) | Lane::Inside(_) => (self.settled as u32).checked_sub(1),
         }
     }
 
     // Where it goes on from place k.
-    pub(crate) fn next_along(&self, lane: Lane, k: usize) -> Option<usize>
+    pub(crate) fn next_along(&self, lane: Lane, k: usize) -> Option<u32>
         requires { (k < self.now.settled) × (track self.now.rows.now lane k ≡ lane_bucket self.now.rows.now lane) }
         ensures { result ≡ last_in (track self.now.rows.now lane) (lane_bucket self.now.rows.now lane) k }
     {
@@ -37,7 +37,7 @@ impl<'a, G: Copy> Table<'a, G> {
                 .chain(side, k)
                 .link,
             Lane::Necessary(_) => self.chain(Side::Target, k).link,
-            Lane::Outer(_) | Lane::Inside(_) => k.checked_sub(1),
+            Lane::Outer(_) | Lane::Inside(_) => (k as u32).checked_sub(1),
         }
     }
 
@@ -48,7 +48,7 @@ impl<'a, G: Copy> Table<'a, G> {
     {
         match lane {
             Lane::Nowhere => false,
-            Lane::Alone(n) => k == n,
+            Lane::Alone(n) => k == n as usize,
             Lane::Along(side, node) => side.node(self.settled_statement(k)) == node,
             Lane::AlongIn(standpoint, side, node) => {
                 let y = self.settled_statement(k);
