@@ -84,13 +84,13 @@ impl<'a, G: Copy> Table<'a, G> {
     pub(crate) fn attempt_along<K: Kind<Grade = G>>(
         &mut self,
         inference: &Inference<'_, K>,
-        lane: Lane,
+        lane: &Lane,
         k: usize,
         at: Places,
     ) -> Result<(), NoRow>
         requires { (k < self.old.settled) × SettledPlaces self.old.settled (listed_places at) }
         ensures same { Same self.old self.new }
-        ensures state { Went (K.Kind.algebra inference.now.kind.now) inference.now.individuals (view self.old) (view self.new) (λ l o. OnLane lane l k × Step (K.Kind.algebra inference.now.kind.now) inference.now.individuals l (number_of_rule inference.now.rule) (listed_places at) o) (λ l. Step (K.Kind.algebra inference.now.kind.now) inference.now.individuals l (number_of_rule inference.now.rule) (listed_places at)) (is_ok result) }
+        ensures state { Went (K.Kind.algebra inference.now.kind.now) inference.now.individuals (view self.old) (view self.new) (λ l o. OnLane lane.now l k × Step (K.Kind.algebra inference.now.kind.now) inference.now.individuals l (number_of_rule inference.now.rule) (listed_places at) o) (λ l. Step (K.Kind.algebra inference.now.kind.now) inference.now.individuals l (number_of_rule inference.now.rule) (listed_places at)) (is_ok result) }
     {
         if !self.is_along(lane, k) {
             return Ok(());

@@ -31,12 +31,12 @@ impl<'a, G: Copy> Table<'a, G> {
         let x = self.settled_statement(newest);
         let y = self.settled_statement(i);
         let lane = last_lane(inference.rule, position, x, y);
-        let mut at = self.last_along(lane);
+        let mut at = self.last_along(&lane);
         while let Some(j) = at {
             let j = j as usize;
             let places = position.arrange(inference.rule, newest, i, j);
-            self.attempt_along(inference, lane, j, places)?;
-            at = self.next_along(lane, j);
+            self.attempt_along(inference, &lane, j, places)?;
+            at = self.next_along(&lane, j);
         }
         Ok(())
     }
@@ -47,12 +47,12 @@ impl<'a, G: Copy> Table<'a, G> {
         inference: &Inference<'_, K>,
         position: Position,
         newest: usize,
-        lane: Lane,
+        lane: &Lane,
         i: usize,
     ) -> Result<(), NoRow>
         requires { (newest < self.old.settled) × (i < self.old.settled) }
         ensures same { Same self.old self.new }
-        ensures state { Went (K.Kind.algebra inference.now.kind.now) inference.now.individuals (view self.old) (view self.new) (λ l o. OnLane lane l i × Around (K.Kind.algebra inference.now.kind.now) inference.now.individuals (number_of_rule inference.now.rule) position newest i l o) (λ l. Uses (K.Kind.algebra inference.now.kind.now) inference.now.individuals l newest) (is_ok result) }
+        ensures state { Went (K.Kind.algebra inference.now.kind.now) inference.now.individuals (view self.old) (view self.new) (λ l o. OnLane lane.now l i × Around (K.Kind.algebra inference.now.kind.now) inference.now.individuals (number_of_rule inference.now.rule) position newest i l o) (λ l. Uses (K.Kind.algebra inference.now.kind.now) inference.now.individuals l newest) (is_ok result) }
     {
         if !self.is_along(lane, i) {
             return Ok(());
@@ -89,14 +89,14 @@ impl<'a, G: Copy> Table<'a, G> {
                     continue;
                 }
                 let lane = beside(rule, position, newest as u32, x);
-                let mut at = self.last_along(lane);
+                let mut at = self.last_along(&lane);
                 while let Some(i) = at {
                     let i = i as usize;
-                    outcome = self.around(&inference, position, newest, lane, i);
+                    outcome = self.around(&inference, position, newest, &lane, i);
                     if outcome.is_err() {
                         break 'search;
                     }
-                    at = self.next_along(lane, i);
+                    at = self.next_along(&lane, i);
                 }
             }
         }

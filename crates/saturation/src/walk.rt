@@ -12,11 +12,11 @@ use standpoint::shape::NESTED_INCLUSION;
 
 impl<'a, G: Copy> Table<'a, G> {
     // Where a walk back along a lane starts: at the last settled place of its chain, if there is one.
-    pub(crate) fn last_along(&self, lane: Lane) -> Option<u32>
+    pub(crate) fn last_along(&self, lane: &Lane) -> Option<u32>
         requires { 0 < length self.now.rows.now }
-        ensures { result ≡ last_in (track self.now.rows.now lane) (lane_bucket self.now.rows.now lane) self.now.settled }
+        ensures { result ≡ last_in (track self.now.rows.now lane.now) (lane_bucket self.now.rows.now lane.now) self.now.settled }
     {
-        match lane {
+        match *lane {
             Lane::Nowhere => None,
             Lane::Alone(n) => ((n as usize) < self.settled).then_some(n),
             Lane::Along(side, node) | Lane::AlongIn(_, side, node) => self.spot(side, node).last,
@@ -27,11 +27,11 @@ impl<'a, G: Copy> Table<'a, G> {
     }
 
     // Where it goes on from place k.
-    pub(crate) fn next_along(&self, lane: Lane, k: usize) -> Option<u32>
-        requires { (k < self.now.settled) × (track self.now.rows.now lane k ≡ lane_bucket self.now.rows.now lane) }
-        ensures { result ≡ last_in (track self.now.rows.now lane) (lane_bucket self.now.rows.now lane) k }
+    pub(crate) fn next_along(&self, lane: &Lane, k: usize) -> Option<u32>
+        requires { (k < self.now.settled) × (track self.now.rows.now lane.now k ≡ lane_bucket self.now.rows.now lane.now) }
+        ensures { result ≡ last_in (track self.now.rows.now lane.now) (lane_bucket self.now.rows.now lane.now) k }
     {
-        match lane {
+        match *lane {
             Lane::Nowhere | Lane::Alone(_) => None,
             Lane::Along(side, _) | Lane::AlongIn(_, side, _) | Lane::Only(side, _) => self
                 .chain(side, k)
@@ -42,11 +42,11 @@ impl<'a, G: Copy> Table<'a, G> {
     }
 
     // Whether the statement settled at k is on a lane: statements that differ may share a bucket.
-    pub(crate) fn is_along(&self, lane: Lane, k: usize) -> bool
+    pub(crate) fn is_along(&self, lane: &Lane, k: usize) -> bool
         requires { k < self.now.settled }
-        ensures { Tells result (Within lane k (settled_at self.now.rows.now k)) }
+        ensures { Tells result (Within lane.now k (settled_at self.now.rows.now k)) }
     {
-        match lane {
+        match *lane {
             Lane::Nowhere => false,
             Lane::Alone(n) => k == n as usize,
             Lane::Along(side, node) => side.node(self.settled_statement(k)) == node,

@@ -9,4 +9,4 @@ returns-then-not-is_along-clause-state g c =
     let al = g.K.Kind.algebra c.args.inference.now.kind.now in
     let v = c.args.inference.now.individuals in
     let rule = number_of_rule c.args.inference.now.rule in
-    went_off al v (view c.args.self.now) c.args.lane c.args.k (λ l. Step al v l rule (listed_places c.args.at)) _ c.if-not-is_along.ensures
+    went_off al v (view c.args.self.now) c.args.lane.now c.args.k (λ l. Step al v l rule (listed_places c.args.at)) _ c.if-not-is_along.ensures

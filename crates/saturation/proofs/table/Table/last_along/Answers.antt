@@ -19,4 +19,4 @@ returns-in-Alone g c =
     subst (λ (lane : Lane). c.then_some.result ≡ last_in (track rows lane) (lane_bucket rows lane) t.settled) (sym c.in-Alone.is) (c.then_some.ensures ∙ last_alone n t.settled)
 
 pub returns-in-Outer : goal.returns-in-Outer
-returns-in-Outer g c = last_by_number c.args.self.now.rows.now c.args.lane c.args.self.now.settled c.checked_sub.result c.in-Outer.is c.checked_sub.ensures
+returns-in-Outer g c = last_by_number c.args.self.now.rows.now c.args.lane.now c.args.self.now.settled c.checked_sub.result c.in-Outer.is c.checked_sub.ensures
