@@ -55,7 +55,7 @@ module _ (rows : List Row) (n : ℕ) (fit : n ≤ length rows) (part : List Row)
         index = index_kept rows (part ++ drop n rows) cleared_long len statement (cleared_column (λ (r : Row). r.index) (λ r. refl)) f.index;
         sides = sides_kept rows (part ++ drop n rows) cleared_long n
             (λ k h. ap (λ (j : ℕ). (get_or (part ++ drop n rows) j no_row).statement) (cleared_column (λ (r : Row). r.turn) (λ r. refl) k) ∙ statement (get_or rows k no_row).turn)
-            (λ side. cleared_column (chain_of side) (λ r. same_chains (remarked r false) r refl refl refl refl side)) f.sides;
+            (λ side. cleared_column (chain_of side) (λ r. same_chains (remarked r false) r refl refl refl refl refl side)) f.sides;
       }
 
   module _ {G : Type 0} (s u : State G) (of : s.rows ≡ rows) (at : s.settled ≡ n) (new : u.rows ≡ part ++ drop n rows) (len : u.len ≡ s.len) (settled : u.settled ≡ s.settled) (grades : u.grades ≡ s.grades) where

@@ -9,12 +9,12 @@ use Rattle.saturation.specs.Rows.{no_row, TurnsWithin, Unmarked, WinnersWithin}
 use Rattle.saturation.specs.Chains.{last_in}
 use Rattle.saturation.specs.Buckets.{bucket_of, bucket_at, Indexed, entered}
 use Rattle.saturation.specs.declared.side.Spot.{Spot}
+use Rattle.saturation.specs.declared.side.Spots.{Spots}
 use Rattle.saturation.specs.declared.side.Side.{Side}
-use Rattle.saturation.specs.declared.side.Side.TheVariants.{Source, Target, Inner, Ending}
-use Rattle.saturation.specs.Sides.{node_of, chain_of, Sided, spot_of, placed, turned, settled_rows}
+use Rattle.saturation.specs.Sides.{on, spots_of, SpotsWithin, node_of, chain_of, Sided, spot_of, placed, turned, settled_rows}
 use Rattle.saturation.proofs.Writing.{write_leaves, turns_written, marks_written, winners_written}
 use Rattle.saturation.proofs.Indexing.{bucket_below, index_kept, entered_long, entered_old, entered_new, entered_same, entered_index}
-use Rattle.saturation.proofs.Siding.{Apart, sides_kept, sides_apart, spots_are, statement_apart, mark_apart, winner_apart, index_apart, settled_long, settled_leaves, turn_old, turn_new, settled_sides}
+use Rattle.saturation.proofs.Siding.{Apart, sides_kept, sides_apart, spots_are, spots_within, statement_apart, mark_apart, winner_apart, index_apart, settled_long, settled_leaves, turn_old, turn_new, settled_sides}
 
 pub record RowFacts (rows : List Row) (settled len : ℕ) (begun : Bool) : Type 0 where
   pub fits : len ≤ length rows
@@ -48,13 +48,9 @@ module _ (rows : List Row) (settled len : ℕ) (begun : Bool) (f : RowFacts rows
       }
 
   -- row i is settled next
-  module _ (i : ℕ) (source target inner ending : Spot) (below : i < len) (room : settled < len)
-      (a : source ≡ spot_of Source rows settled (node_of Source (get_or rows i no_row).statement))
-      (b : target ≡ spot_of Target rows settled (node_of Target (get_or rows i no_row).statement))
-      (c : inner ≡ spot_of Inner rows settled (node_of Inner (get_or rows i no_row).statement))
-      (d : ending ≡ spot_of Ending rows settled (node_of Ending (get_or rows i no_row).statement)) where
+  module _ (i : ℕ) (spots : Spots) (below : i < len) (room : settled < len) (is : spots ≡ spots_of rows settled (get_or rows i no_row).statement) where
     abbrev new : List Row
-    new = settled_rows rows settled i source target inner ending
+    new = settled_rows rows settled i spots
 
     in_n : settled < length rows
     in_n = let fits = f.fits in omega arith
@@ -62,32 +58,33 @@ module _ (rows : List Row) (settled len : ℕ) (begun : Bool) (f : RowFacts rows
     in_i : i < length rows
     in_i = let fits = f.fits in omega arith
 
-    in_bucket : (side : Side) (v : Spot) → v ≡ spot_of side rows settled (node_of side (get_or rows i no_row).statement) → v.bucket < length rows
-    in_bucket side v is = subst (λ (w : Spot). w.bucket < length rows) (sym is) (bucket_below (length rows) (node_of side (get_or rows i no_row).statement) (let h = in_n in omega arith))
+    at_spots : (side : Side) → on spots side ≡ spot_of side rows settled (node_of side (get_or rows i no_row).statement)
+    at_spots = spots_are rows settled (get_or rows i no_row).statement spots is
 
-    left : {X : Type 0} (g : Row → X) → Apart g → ((r : Row) (p : ℕ) → g (placed r p) ≡ g r) → g (turned (get_or rows settled no_row) i source target inner ending) ≡ g (get_or rows settled no_row) → (j : ℕ) → g (get_or new j no_row) ≡ g (get_or rows j no_row)
-    left = settled_leaves rows settled i source target inner ending in_n in_i (in_bucket Source source a) (in_bucket Target target b) (in_bucket Inner inner c) (in_bucket Ending ending d)
+    in_spots : SpotsWithin spots (length rows)
+    in_spots =
+        let some : 0 < length rows = let h = in_n in omega arith in
+        subst (λ (v : Spots). SpotsWithin v (length rows)) (sym is) (spots_within rows settled (get_or rows i no_row).statement some)
+
+    left : {X : Type 0} (g : Row → X) → Apart g → ((r : Row) (p : ℕ) → g (placed r p) ≡ g r) → g (turned (get_or rows settled no_row) i spots) ≡ g (get_or rows settled no_row) → (j : ℕ) → g (get_or new j no_row) ≡ g (get_or rows j no_row)
+    left = settled_leaves rows settled i spots in_n in_i in_spots
 
     pub settled_facts : RowFacts new (settled + 1) len begun
     settled_facts =
         let fits = f.fits in
-        let in_source = in_bucket Source source a in
-        let in_target = in_bucket Target target b in
-        let in_inner = in_bucket Inner inner c in
-        let in_ending = in_bucket Ending ending d in
-        let long = settled_long rows settled i source target inner ending in_n in_i in_source in_target in_inner in_ending in
+        let long = settled_long rows settled i spots in_n in_i in_spots in
         record {
           fits = omega arith;
           turns = λ k h.
               ⊎_elim
-              (λ t. subst (λ (n : ℕ). n < len) (sym (ap (λ (j : ℕ). (get_or new j no_row).turn) t.1 ∙ turn_new rows settled i source target inner ending in_n in_i in_source in_target in_inner in_ending)) below)
-              (λ n. let ne = n.1 in subst (λ (t : ℕ). t < len) (sym (turn_old rows settled i source target inner ending in_n in_i in_source in_target in_inner in_ending k ne)) (f.turns k (omega arith)))
+              (λ t. subst (λ (n : ℕ). n < len) (sym (ap (λ (j : ℕ). (get_or new j no_row).turn) t.1 ∙ turn_new rows settled i spots in_n in_i in_spots)) below)
+              (λ n. let ne = n.1 in subst (λ (t : ℕ). t < len) (sym (turn_old rows settled i spots in_n in_i in_spots k ne)) (f.turns k (omega arith)))
               (eqb_tells k settled);
           marks = λ on k h. left (λ r. r.mark) mark_apart (λ r p. refl) refl k ∙ f.marks on k h;
           winners = λ k h. subst (λ (w : ℕ). w < len) (sym (left (λ r. r.winner) winner_apart (λ r p. refl) refl k)) (f.winners k h);
           index = index_kept rows new long len (left (λ r. r.statement) statement_apart (λ r p. refl) refl) (left (λ r. r.index) index_apart (λ r p. refl) refl) f.index;
-          sides = settled_sides rows settled i source target inner ending in_n in_i in_source in_target in_inner in_ending
-              (spots_are rows settled i source target inner ending in_n in_i in_source in_target in_inner in_ending (λ side. spot_of side rows settled (node_of side (get_or rows i no_row).statement)) a b c d)
+          sides = settled_sides rows settled i spots in_n in_i in_spots
+              at_spots
               f.sides;
         }
 

@@ -7,17 +7,16 @@ use Rattle.standpoint.specs.Algebra.{Algebra}
 use Rattle.standpoint.specs.Derivations.{Base}
 use Rattle.saturation.specs.declared.row.Row.{Row}
 use Rattle.saturation.specs.declared.row.Kept.{Kept}
-use Rattle.saturation.specs.declared.side.Side.{Side}
-use Rattle.saturation.specs.declared.side.Side.TheVariants.{Source, Target, Inner, Ending}
 use Rattle.saturation.specs.declared.side.Spot.{Spot}
-use Rattle.saturation.specs.Sides.{node_of, settled_rows}
-use Rattle.saturation.specs.Tables.{State, row_at, statement_at, turn_at, OpenAt, spot_at, settled_row}
+use Rattle.saturation.specs.declared.side.Spots.{Spots}
+use Rattle.saturation.specs.Sides.{SpotsWithin, node_of, settled_rows}
+use Rattle.saturation.specs.Tables.{State, row_at, statement_at, turn_at, OpenAt, spots_at, settled_row}
 use Rattle.saturation.specs.Places.{KeptRight}
 use Rattle.saturation.specs.Offering.{Apart, BestOf, Grown, RowsRight, Explained}
 use Rattle.saturation.specs.Searching.{Premise, Lists}
 use Rattle.saturation.proofs.Offers.{last_or, equal_or, not_both, in_same}
 use Rattle.saturation.proofs.Indexing.{bucket_below}
-use Rattle.saturation.proofs.Siding.{kept_apart, winner_apart, settled_long, settled_leaves, settled_statement, turn_old, turn_new, place_old, place_new}
+use Rattle.saturation.proofs.Siding.{spots_within, kept_apart, winner_apart, settled_long, settled_leaves, settled_statement, turn_old, turn_new, place_old, place_new}
 use Rattle.saturation.proofs.Rematching.{Touched}
 use Rattle.saturation.proofs.Lists.{Fit, turn_kept}
 use Rattle.saturation.proofs.Stepping.{kept_up}
@@ -30,14 +29,8 @@ abbrev pub one_more : {G : Type 0} → State G → List Row → State G
 one_more s rows = record { rows = rows; grades = s.grades; len = s.len; settled = s.settled + 1 }
 
 -- rows with row i settled next
-pub settled_as : {G : Type 0} (s : State G) (i : ℕ) (new : List Row) (source target inner ending : Spot) → source ≡ spot_at Source s i → target ≡ spot_at Target s i → inner ≡ spot_at Inner s i → ending ≡ spot_at Ending s i →
-    new ≡ settled_rows s.rows s.settled i source target inner ending → one_more s new ≡ settled_row s i
-settled_as s i new source target inner ending a b c d is =
-    ap (one_more s) is
-    ∙ ap (λ (v : Spot). one_more s (settled_rows s.rows s.settled i v target inner ending)) a
-    ∙ ap (λ (v : Spot). one_more s (settled_rows s.rows s.settled i (spot_at Source s i) v inner ending)) b
-    ∙ ap (λ (v : Spot). one_more s (settled_rows s.rows s.settled i (spot_at Source s i) (spot_at Target s i) v ending)) c
-    ∙ ap (λ (v : Spot). one_more s (settled_rows s.rows s.settled i (spot_at Source s i) (spot_at Target s i) (spot_at Inner s i) v)) d
+pub settled_as : {G : Type 0} (s : State G) (i : ℕ) (new : List Row) (spots : Spots) → spots ≡ spots_at s i → new ≡ settled_rows s.rows s.settled i spots → one_more s new ≡ settled_row s i
+settled_as s i new spots at is = ap (one_more s) is ∙ ap (λ (v : Spots). one_more s (settled_rows s.rows s.settled i v)) at
 
 module _ {G : Type 0} (s : State G) (i : ℕ) (within : i < s.len) (rows_fit : s.len ≤ length s.rows) (room : s.settled < s.len) where
   in_n : s.settled < length s.rows
@@ -46,26 +39,26 @@ module _ {G : Type 0} (s : State G) (i : ℕ) (within : i < s.len) (rows_fit : s
   in_i : i < length s.rows
   in_i = omega arith
 
-  in_spot : (side : Side) → (spot_at side s i).bucket < length s.rows
-  in_spot side = bucket_below (length s.rows) (node_of side (statement_at s i)) (omega arith)
+  in_spots : SpotsWithin (spots_at s i) (length s.rows)
+  in_spots = spots_within s.rows s.settled (statement_at s i) (omega arith)
 
   pub settled_statements : (j : ℕ) → statement_at (settled_row s i) j ≡ statement_at s j
-  settled_statements = settled_statement s.rows s.settled i (spot_at Source s i) (spot_at Target s i) (spot_at Inner s i) (spot_at Ending s i) in_n in_i (in_spot Source) (in_spot Target) (in_spot Inner) (in_spot Ending)
+  settled_statements = settled_statement s.rows s.settled i (spots_at s i) in_n in_i in_spots
 
   turn_before : (j : ℕ) → j < s.settled → turn_at (settled_row s i) j ≡ turn_at s j
-  turn_before j h = turn_old s.rows s.settled i (spot_at Source s i) (spot_at Target s i) (spot_at Inner s i) (spot_at Ending s i) in_n in_i (in_spot Source) (in_spot Target) (in_spot Inner) (in_spot Ending) j (λ e. omega arith)
+  turn_before j h = turn_old s.rows s.settled i (spots_at s i) in_n in_i in_spots j (λ e. omega arith)
 
   turn_now : turn_at (settled_row s i) s.settled ≡ i
-  turn_now = turn_new s.rows s.settled i (spot_at Source s i) (spot_at Target s i) (spot_at Inner s i) (spot_at Ending s i) in_n in_i (in_spot Source) (in_spot Target) (in_spot Inner) (in_spot Ending)
+  turn_now = turn_new s.rows s.settled i (spots_at s i) in_n in_i in_spots
 
   place_before : (j : ℕ) → (j ≡ i → ⊥) → (row_at (settled_row s i) j).place ≡ (row_at s j).place
-  place_before = place_old s.rows s.settled i (spot_at Source s i) (spot_at Target s i) (spot_at Inner s i) (spot_at Ending s i) in_n in_i (in_spot Source) (in_spot Target) (in_spot Inner) (in_spot Ending)
+  place_before = place_old s.rows s.settled i (spots_at s i) in_n in_i in_spots
 
   place_now : (row_at (settled_row s i) i).place ≡ Some s.settled
-  place_now = place_new s.rows s.settled i (spot_at Source s i) (spot_at Target s i) (spot_at Inner s i) (spot_at Ending s i) in_n in_i (in_spot Source) (in_spot Target) (in_spot Inner) (in_spot Ending)
+  place_now = place_new s.rows s.settled i (spots_at s i) in_n in_i in_spots
 
   pub settled_rows_long : length (settled_row s i).rows ≡ length s.rows
-  settled_rows_long = settled_long s.rows s.settled i (spot_at Source s i) (spot_at Target s i) (spot_at Inner s i) (spot_at Ending s i) in_n in_i (in_spot Source) (in_spot Target) (in_spot Inner) (in_spot Ending)
+  settled_rows_long = settled_long s.rows s.settled i (spots_at s i) in_n in_i in_spots
 
   pub settled_lists : (l : List (Statement × G)) (g : G) → OpenAt s i → ((d : G) → get_or s.grades i d ≡ g) → Lists s l → Lists (settled_row s i) (l ++ (statement_at s i, g) ∷ [])
   settled_lists l g un grade is =
@@ -127,12 +120,12 @@ module _ {G : Type 0} (s : State G) (i : ℕ) (within : i < s.len) (rows_fit : s
   settled_touched = record {
     more = omega arith;
     old = λ j h ne. h;
-    winners = λ j h ne. settled_leaves s.rows s.settled i (spot_at Source s i) (spot_at Target s i) (spot_at Inner s i) (spot_at Ending s i) in_n in_i (in_spot Source) (in_spot Target) (in_spot Inner) (in_spot Ending) (λ (r : Row). r.winner) winner_apart (λ r p. refl) refl j;
+    winners = λ j h ne. settled_leaves s.rows s.settled i (spots_at s i) in_n in_i in_spots (λ (r : Row). r.winner) winner_apart (λ r p. refl) refl j;
     plays = λ j h ne. record { place = place_before j ne; statement = settled_statements j; grade = λ d. refl };
   }
 
   settled_kept : (j : ℕ) → (row_at (settled_row s i) j).kept ≡ (row_at s j).kept
-  settled_kept = settled_leaves s.rows s.settled i (spot_at Source s i) (spot_at Target s i) (spot_at Inner s i) (spot_at Ending s i) in_n in_i (in_spot Source) (in_spot Target) (in_spot Inner) (in_spot Ending) (λ (r : Row). r.kept) kept_apart (λ r p. refl) refl
+  settled_kept = settled_leaves s.rows s.settled i (spots_at s i) in_n in_i in_spots (λ (r : Row). r.kept) kept_apart (λ r p. refl) refl
 
   pub settled_right : (al : Algebra G) (base : Base G) (l : List (Statement × G)) (p : Statement × G) → RowsRight al base l s → RowsRight al base (l ++ p ∷ []) (settled_row s i)
   settled_right al base l p all j h z d =

@@ -6,10 +6,9 @@ use Rattle.standpoint.specs.declared.statement.Statement.{Statement}
 use Rattle.standpoint.specs.Algebra.{Algebra}
 use Rattle.saturation.specs.declared.row.Row.{Row}
 use Rattle.saturation.specs.declared.lane.Lane.{Lane}
-use Rattle.saturation.specs.declared.lane.Lane.TheVariants.{Nowhere, Alone, Along, AlongIn, Only, Necessary, Outer, Inside}
+use Rattle.saturation.specs.declared.lane.Lane.TheVariants.{Nowhere, Alone, Along, AlongIn, Only, Outer, Inside}
 use Rattle.saturation.specs.declared.side.Side.{Side}
 use Rattle.saturation.specs.Chains.{last_in, links_in}
-use Rattle.saturation.specs.declared.side.Side.TheVariants.{Target}
 use Rattle.saturation.specs.Buckets.{bucket_of}
 use Rattle.saturation.specs.Sides.{node_of, chain_of, settled_at, side_bucket, Sided}
 use Rattle.saturation.specs.Lanes.{Within, track, lane_bucket}
@@ -27,7 +26,6 @@ tracked rows (Alone n) k within = within
 tracked rows (Along side node) k within = ap (bucket_of (length rows)) within
 tracked rows (AlongIn standpoint side node) k within = ap (bucket_of (length rows)) within.1
 tracked rows (Only side x) k within = ap (λ (y : Statement). bucket_of (length rows) (node_of side y)) within
-tracked rows (Necessary node) k within = ap (bucket_of (length rows)) within.1
 tracked rows (Outer standpoint) k within = refl
 tracked rows (Inside standpoint) k within = refl
 
@@ -56,9 +54,6 @@ module _ (rows : List Row) (settled : ℕ) (sides : Sided rows settled) (lane : 
       (λ w. linked_as side (Only side w.0) w.1 (link_along rows settled sides side _ k below))
       other)
       which
-
-  pub link_necessary : (x : Statement) → lane ≡ Necessary x → links_in (chain_of Target) rows k ≡ last_in (track rows lane) (lane_bucket rows lane) k
-  link_necessary x is = linked_as Target (Necessary x) is (link_along rows settled sides Target _ k below)
 
 pub last_nowhere : (rows : List Row) (n : ℕ) → last_in (track rows Nowhere) 1 n ≡ None
 last_nowhere rows zero = refl

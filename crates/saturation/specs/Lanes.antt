@@ -6,9 +6,9 @@ use Rattle.saturation.specs.declared.row.Row.{Row}
 use Rattle.saturation.specs.declared.places.Position.{Position}
 use Rattle.saturation.specs.declared.places.Position.TheVariants.{First, Second, Third}
 use Rattle.saturation.specs.declared.side.Side.{Side}
-use Rattle.saturation.specs.declared.side.Side.TheVariants.{Source, Target, Inner, Ending}
+use Rattle.saturation.specs.declared.side.Side.TheVariants.{Source, Target, Inner, Ending, Through}
 use Rattle.saturation.specs.declared.lane.Lane.{Lane}
-use Rattle.saturation.specs.declared.lane.Lane.TheVariants.{Nowhere, Alone, Along, AlongIn, Only, Necessary, Outer, Inside}
+use Rattle.saturation.specs.declared.lane.Lane.TheVariants.{Nowhere, Alone, Along, AlongIn, Only, Outer, Inside}
 use Rattle.saturation.specs.Buckets.{bucket_of}
 use Rattle.saturation.specs.Sides.{node_of, side_bucket}
 
@@ -113,8 +113,8 @@ inclusion_second rule x =
     (cond (rule == 7) (Along Ending (statement 3 0 0 x.first 0 x.second))
     (cond (rule == 8) (Along Ending (statement 3 0 0 x.first 0 x.second))
     (cond (rule == 9) (Only Ending (statement 4 x.first x.second x.third x.fourth 0))
-    (cond (rule == 10) (Necessary (statement 3 0 0 x.first 0 x.second))
-    (cond (rule == 11) (Necessary (statement 3 0 0 x.first 0 x.second))
+    (cond (rule == 10) (Along Through (statement 3 0 0 x.first 0 x.second))
+    (cond (rule == 11) (Along Through (statement 3 0 0 x.first 0 x.second))
     (cond (rule == 12) (Along Target (statement 4 0 0 x.first x.second 0))
     (cond (rule == 13) (Along Target (statement 4 0 0 x.first x.second 0))
     Nowhere)))))))
@@ -179,7 +179,6 @@ Within (Alone n) k y = k ≡ n
 Within (Along side node) k y = node_of side y ≡ node
 Within (AlongIn standpoint side node) k y = (y.first ≡ standpoint) × (node_of side y ≡ node)
 Within (Only side x) k y = y ≡ x
-Within (Necessary node) k y = (y.fourth ≡ 0) × (node_of Target y ≡ node)
 Within (Outer standpoint) k y = y.first ≡ standpoint
 Within (Inside standpoint) k y = (y.shape ≡ 3) × (y.third ≡ standpoint)
 
@@ -190,7 +189,6 @@ track rows (Alone n) k = k
 track rows (Along side node) k = side_bucket side rows k
 track rows (AlongIn standpoint side node) k = side_bucket side rows k
 track rows (Only side x) k = side_bucket side rows k
-track rows (Necessary node) k = side_bucket Target rows k
 track rows (Outer standpoint) k = 0
 track rows (Inside standpoint) k = 0
 
@@ -200,6 +198,5 @@ lane_bucket rows (Alone n) = n
 lane_bucket rows (Along side node) = bucket_of (length rows) node
 lane_bucket rows (AlongIn standpoint side node) = bucket_of (length rows) node
 lane_bucket rows (Only side x) = bucket_of (length rows) (node_of side x)
-lane_bucket rows (Necessary node) = bucket_of (length rows) node
 lane_bucket rows (Outer standpoint) = 0
 lane_bucket rows (Inside standpoint) = 0

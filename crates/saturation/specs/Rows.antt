@@ -28,6 +28,7 @@ no_row = record {
   target = no_chain;
   inner = no_chain;
   ending = no_chain;
+  through = no_chain;
 }
 
 -- each turn so far settled a taken row

@@ -7,10 +7,8 @@ use Rattle.saturation.specs.declared.table.Table.{Table}
 use Rattle.saturation.specs.Rows.{chain, no_row}
 use Rattle.saturation.specs.Chains.{last_in}
 use Rattle.saturation.specs.Buckets.{bucket_of, bucket_at, entered}
-use Rattle.saturation.specs.declared.side.Spot.{Spot}
-use Rattle.saturation.specs.declared.side.Side.{Side}
-use Rattle.saturation.specs.declared.side.Side.TheVariants.{Source, Target, Inner, Ending}
-use Rattle.saturation.specs.Sides.{node_of, spot_of, settled_rows}
+use Rattle.saturation.specs.declared.side.Spots.{Spots}
+use Rattle.saturation.specs.Sides.{spots_of, settled_rows}
 
 -- the rows, the grades beside them, and how many are taken and settled
 pub record State (G : Type 0) : Type 0 where
@@ -87,18 +85,13 @@ rekept r k = record r { kept = k }
 abbrev pub improved : {G : Type 0} → State G → ℕ → G → Kept → State G
 improved s i g k = record { rows = slice_set s.rows i (rekept (row_at s i) k); grades = slice_set s.grades i g; len = s.len; settled = s.settled }
 
--- where row i goes in the chains of a side
-abbrev pub spot_at : {G : Type 0} → Side → State G → ℕ → Spot
-spot_at side s i = spot_of side s.rows s.settled (node_of side (statement_at s i))
+-- where row i goes in the chains
+abbrev pub spots_at : {G : Type 0} → State G → ℕ → Spots
+spots_at s i = spots_of s.rows s.settled (statement_at s i)
 
 -- row i is settled in the next turn
 abbrev pub settled_row : {G : Type 0} → State G → ℕ → State G
-settled_row s i = record {
-  rows = settled_rows s.rows s.settled i (spot_at Source s i) (spot_at Target s i) (spot_at Inner s i) (spot_at Ending s i);
-  grades = s.grades;
-  len = s.len;
-  settled = s.settled + 1;
-}
+settled_row s i = record { rows = settled_rows s.rows s.settled i (spots_at s i); grades = s.grades; len = s.len; settled = s.settled + 1 }
 
 -- no row is taken
 abbrev pub fresh : {G : Type 0} → List Row → List G → State G

@@ -1,8 +1,8 @@
 // Lanes: where premises of a kind are found among the settled statements.
 ghost use Rattle.std.specs.Prelude.{◌≡◌};
 ghost use Rattle.standpoint.specs.Statements.{statement};
-ghost use Rattle.saturation.specs.declared.lane.Lane.TheVariants.{Along, AlongIn, Only, Necessary};
-ghost use Rattle.saturation.specs.declared.side.Side.TheVariants.{Source, Target, Inner, Ending};
+ghost use Rattle.saturation.specs.declared.lane.Lane.TheVariants.{Along, AlongIn, Only};
+ghost use Rattle.saturation.specs.declared.side.Side.TheVariants.{Source, Target, Inner, Ending, Through};
 ghost use Rattle.saturation.specs.Lanes.{when};
 
 use crate::side::Side;
@@ -19,8 +19,6 @@ pub(crate) enum Lane {
     AlongIn(u16, Side, Statement),
     // This statement alone, by its node on this side.
     Only(Side, Statement),
-    // With this node as target, and top as fourth number.
-    Necessary(Statement),
     // Of any shape, whose first number is this standpoint.
     Outer(u16),
     // Nested inclusions whose third number is this standpoint.
@@ -128,9 +126,9 @@ impl Lane {
 
     // The nested inclusions of top inside that end at d of s.
     pub(crate) fn necessary_to(s: u16, d: u16) -> Lane
-        ensures { result ≡ Necessary (statement 3 0 0 s 0 d) }
+        ensures { result ≡ Along Through (statement 3 0 0 s 0 d) }
     {
-        Lane::Necessary(Statement::nested_inclusion(0, 0, s, 0, d))
+        Lane::Along(Side::Through, Statement::nested_inclusion(0, 0, s, 0, d))
     }
 
     // The nested inclusions that end at d of s.

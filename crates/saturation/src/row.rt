@@ -65,6 +65,7 @@ pub struct Row {
     pub target: Chain,
     pub inner: Chain,
     pub ending: Chain,
+    pub through: Chain,
     pub kept: Kept,
     // A column of its own: stands only while steps are written out.
     pub mark: bool,
@@ -84,5 +85,6 @@ impl Row {
         target: Chain::EMPTY,
         inner: Chain::EMPTY,
         ending: Chain::EMPTY,
+        through: Chain::EMPTY,
     };
 }

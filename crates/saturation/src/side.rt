@@ -1,9 +1,9 @@
 // The settled statements in chains, on several sides: by the numbers that a rule knows of the premises it looks for.
 ghost use Rattle.std.specs.Prelude.{◌≡◌, ◌<◌, length, slice_index_or};
-ghost use Rattle.saturation.specs.Rows.{no_row};
+ghost use Rattle.saturation.specs.Rows.{chain, no_row};
 ghost use Rattle.saturation.specs.Chains.{last_in};
 ghost use Rattle.saturation.specs.Buckets.{bucket_of};
-ghost use Rattle.saturation.specs.Sides.{source_of, target_of, inner_of, ending_of, node_of, chain_of, side_bucket, spot_of, turned, settled_rows};
+ghost use Rattle.saturation.specs.Sides.{source_of, target_of, inner_of, ending_of, through_of, node_of, chain_of, side_bucket, spot_of, spots_of, SpotsWithin, turned, settled_rows};
 
 use crate::buckets::bucket_of;
 use crate::row::{Chain, Row};
@@ -25,6 +25,8 @@ pub(crate) enum Side {
     Inner,
     // Where the inclusion inside a nested one ends, and within what; an existential's role and where it ends.
     Ending,
+    // The inclusion inside a nested one.
+    Through,
 }
 
 // Where a statement goes in the chains of a side: its bucket, and the last settled one in that.
@@ -32,6 +34,16 @@ pub(crate) enum Side {
 pub(crate) struct Spot {
     pub bucket: usize,
     pub last: Option<u32>,
+}
+
+// The same on each side.
+#[derive(Clone, Copy)]
+pub(crate) struct Spots {
+    pub source: Spot,
+    pub target: Spot,
+    pub inner: Spot,
+    pub ending: Spot,
+    pub through: Spot,
 }
 
 fn source_of(x: Statement) -> Statement
@@ -134,6 +146,19 @@ fn ending_of(x: Statement) -> Statement
     }
 }
 
+fn through_of(x: Statement) -> Statement
+    ensures { result ≡ through_of x }
+{
+    match x.shape {
+        NESTED_INCLUSION => Statement {
+            first: 0,
+            second: 0,
+            ..x
+        },
+        _ => x,
+    }
+}
+
 impl Side {
     // The node of a statement.
     pub(crate) fn node(self, x: Statement) -> Statement
@@ -144,53 +169,46 @@ impl Side {
             Side::Target => target_of(x),
             Side::Inner => inner_of(x),
             Side::Ending => ending_of(x),
+            Side::Through => through_of(x),
         }
     }
 }
 
 // Row i is settled k-th, and from then on the last in its bucket on each side.
-pub(crate) fn enter_settled(
-    rows: &mut [Row],
-    k: u32,
-    i: u32,
-    source: Spot,
-    target: Spot,
-    inner: Spot,
-    ending: Spot,
-)
-    requires { (k < length rows.old) × (i < length rows.old) × (source.bucket < length rows.old) × (target.bucket < length rows.old) × (inner.bucket < length rows.old) × (ending.bucket < length rows.old) }
-    ensures { rows.new ≡ settled_rows rows.old k i source target inner ending }
+pub(crate) fn enter_settled(rows: &mut [Row], k: u32, i: u32, spots: Spots)
+    requires { (k < length rows.old) × (i < length rows.old) × SpotsWithin spots (length rows.old) }
+    ensures { rows.new ≡ settled_rows rows.old k i spots }
 {
-    rows[k as usize] = linked(rows[k as usize], i, source, target, inner, ending);
+    rows[k as usize] = linked(rows[k as usize], i, spots);
     rows[i as usize].place = Some(k);
-    rows[source.bucket].source.head = k;
-    rows[target.bucket].target.head = k;
-    rows[inner.bucket].inner.head = k;
-    rows[ending.bucket].ending.head = k;
+    rows[spots.source.bucket].source.head = k;
+    rows[spots.target.bucket].target.head = k;
+    rows[spots.inner.bucket].inner.head = k;
+    rows[spots.ending.bucket].ending.head = k;
+    rows[spots.through.bucket].through.head = k;
+}
+
+// A chain whose link is from then on to what was last there.
+fn relinked(was: Chain, spot: Spot) -> Chain
+    ensures { result ≡ chain was.head spot.last }
+{
+    Chain {
+        head: was.head,
+        link: spot.last,
+    }
 }
 
 // A row with what it tells of a place: which row is settled there, and what is linked from it on each side.
-fn linked(row: Row, i: u32, source: Spot, target: Spot, inner: Spot, ending: Spot) -> Row
-    ensures { result ≡ turned row i source target inner ending }
+fn linked(row: Row, i: u32, spots: Spots) -> Row
+    ensures { result ≡ turned row i spots }
 {
     Row {
         turn: i,
-        source: Chain {
-            head: row.source.head,
-            link: source.last,
-        },
-        target: Chain {
-            head: row.target.head,
-            link: target.last,
-        },
-        inner: Chain {
-            head: row.inner.head,
-            link: inner.last,
-        },
-        ending: Chain {
-            head: row.ending.head,
-            link: ending.last,
-        },
+        source: relinked(row.source, spots.source),
+        target: relinked(row.target, spots.target),
+        inner: relinked(row.inner, spots.inner),
+        ending: relinked(row.ending, spots.ending),
+        through: relinked(row.through, spots.through),
         ..row
     }
 }
@@ -206,6 +224,7 @@ impl<'a, G: Copy> Table<'a, G> {
             Side::Target => self.rows[k].target,
             Side::Inner => self.rows[k].inner,
             Side::Ending => self.rows[k].ending,
+            Side::Through => self.rows[k].through,
         }
     }
 
@@ -241,6 +260,21 @@ impl<'a, G: Copy> Table<'a, G> {
         Spot {
             bucket,
             last: self.last_on(side, bucket),
+        }
+    }
+
+    // Where a statement goes on each side.
+    pub(crate) fn spots(&self, x: Statement) -> Spots
+        requires { 0 < length self.now.rows.now }
+        ensures value { result ≡ spots_of self.now.rows.now self.now.settled x }
+        ensures within { SpotsWithin result (length self.now.rows.now) }
+    {
+        Spots {
+            source: self.spot(Side::Source, source_of(x)),
+            target: self.spot(Side::Target, target_of(x)),
+            inner: self.spot(Side::Inner, inner_of(x)),
+            ending: self.spot(Side::Ending, ending_of(x)),
+            through: self.spot(Side::Through, through_of(x)),
         }
     }
 }

@@ -5,7 +5,7 @@ ghost use Rattle.saturation.specs.Tables.{view, Same, settled_row};
 ghost use Rattle.saturation.specs.Turns.{Turned};
 
 use crate::rows::NoRow;
-use crate::side::{Side, enter_settled};
+use crate::side::enter_settled;
 use crate::table::Table;
 use standpoint::Kind;
 
@@ -56,12 +56,8 @@ impl<'a, G: Copy> Table<'a, G> {
         ensures state { view self.new ≡ settled_row (view self.old) i }
     {
         let k = self.settled as u32;
-        let statement = self.rows[i].statement;
-        let source = self.spot(Side::Source, Side::Source.node(statement));
-        let target = self.spot(Side::Target, Side::Target.node(statement));
-        let inner = self.spot(Side::Inner, Side::Inner.node(statement));
-        let ending = self.spot(Side::Ending, Side::Ending.node(statement));
-        enter_settled(self.rows, k, i as u32, source, target, inner, ending);
+        let spots = self.spots(self.rows[i].statement);
+        enter_settled(self.rows, k, i as u32, spots);
         self.settled += 1;
     }
 }

@@ -21,7 +21,6 @@ impl<'a, G: Copy> Table<'a, G> {
             Lane::Alone(n) => ((n as usize) < self.settled).then_some(n),
             Lane::Along(side, node) | Lane::AlongIn(_, side, node) => self.spot(side, node).last,
             Lane::Only(side, x) => self.spot(side, side.node(x)).last,
-            Lane::Necessary(node) => self.spot(Side::Target, node).last,
             Lane::Outer(_) | Lane::Inside(_) => (self.settled as u32).checked_sub(1),
         }
     }
@@ -36,7 +35,6 @@ impl<'a, G: Copy> Table<'a, G> {
             Lane::Along(side, _) | Lane::AlongIn(_, side, _) | Lane::Only(side, _) => self
                 .chain(side, k)
                 .link,
-            Lane::Necessary(_) => self.chain(Side::Target, k).link,
             Lane::Outer(_) | Lane::Inside(_) => (k as u32).checked_sub(1),
         }
     }
@@ -55,10 +53,6 @@ impl<'a, G: Copy> Table<'a, G> {
                 y.first == standpoint && side.node(y) == node
             }
             Lane::Only(_, x) => self.settled_statement(k) == x,
-            Lane::Necessary(node) => {
-                let y = self.settled_statement(k);
-                y.fourth == 0 && Side::Target.node(y) == node
-            }
             Lane::Outer(standpoint) => self.settled_statement(k).first == standpoint,
             Lane::Inside(standpoint) => {
                 let y = self.settled_statement(k);

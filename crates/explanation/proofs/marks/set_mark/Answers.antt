@@ -13,5 +13,5 @@ invariant_of-reasoner g c =
     let t = c.args.reasoner.now in
     let fits = settled_rows t in
     let within = c.requires.0 in
-    let f = set_facts t.rows.now t.settled t.len (is_begun t.phase) (facts_of t) c.args.k (remarked (row_at (view t) c.args.k) true) (omega arith) refl refl refl (same_chains _ _ refl refl refl refl) (λ on. absurd (both_ways _ c.requires.1 on)) (λ h. t.winners c.args.k h) in
+    let f = set_facts t.rows.now t.settled t.len (is_begun t.phase) (facts_of t) c.args.k (remarked (row_at (view t) c.args.k) true) (omega arith) refl refl refl (same_chains _ _ refl refl refl refl refl) (λ on. absurd (both_ways _ c.requires.1 on)) (λ h. t.winners c.args.k h) in
     record { rows_fit = f.fits; grades_fit = t.grades_fit; few = t.few; settled_fit = t.settled_fit; turns = f.turns; marks = f.marks; winners = f.winners; index = f.index; sides = f.sides }

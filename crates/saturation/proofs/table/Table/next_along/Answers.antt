@@ -3,7 +3,7 @@ use Rattle.saturation.specs.declared.row.Chain.{Chain}
 use Rattle.saturation.specs.declared.lane.Lane.{Lane}
 use Rattle.saturation.specs.Chains.{last_in}
 use Rattle.saturation.specs.Lanes.{track, lane_bucket}
-use Rattle.saturation.proofs.Walking.{none_from, link_sidewise, link_necessary, last_by_number}
+use Rattle.saturation.proofs.Walking.{none_from, link_sidewise, last_by_number}
 use Rattle.saturation.proofs.table.Table.next_along.Goals as goal
 
 pub returns-in-Nowhere : goal.returns-in-Nowhere
@@ -12,12 +12,7 @@ returns-in-Nowhere g c = none_from c.args.self.now.rows.now c.args.lane.now c.ar
 pub returns-in-Along : goal.returns-in-Along
 returns-in-Along g c =
     let t = c.args.self.now in
-    ap (λ (v : Chain). v.link) c.chain-in-Along.ensures ∙ link_sidewise t.rows.now t.settled t.sides c.args.lane.now c.args.k c.requires.0 c.requires.1 c.in-Along.side c.in-Along.is
-
-pub returns-in-Necessary : goal.returns-in-Necessary
-returns-in-Necessary g c =
-    let t = c.args.self.now in
-    ap (λ (v : Chain). v.link) c.chain.ensures ∙ link_necessary t.rows.now t.settled t.sides c.args.lane.now c.args.k c.requires.0 c.requires.1 c.in-Necessary.field-0 c.in-Necessary.is
+    ap (λ (v : Chain). v.link) c.chain.ensures ∙ link_sidewise t.rows.now t.settled t.sides c.args.lane.now c.args.k c.requires.0 c.requires.1 c.in-Along.side c.in-Along.is
 
 pub returns-in-Outer : goal.returns-in-Outer
 returns-in-Outer g c = last_by_number c.args.self.now.rows.now c.args.lane.now c.args.k c.checked_sub.result c.in-Outer.is c.checked_sub.ensures
