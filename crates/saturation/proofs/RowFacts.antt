@@ -8,12 +8,11 @@ use Rattle.saturation.specs.Phases.{is_begun}
 use Rattle.saturation.specs.Rows.{no_row, TurnsWithin, Unmarked, WinnersWithin}
 use Rattle.saturation.specs.Chains.{last_in}
 use Rattle.saturation.specs.Buckets.{bucket_of, bucket_at, Indexed, entered}
-use Rattle.saturation.specs.declared.side.Spot.{Spot}
 use Rattle.saturation.specs.declared.side.Spots.{Spots}
 use Rattle.saturation.specs.declared.side.Side.{Side}
 use Rattle.saturation.specs.Sides.{on, spots_of, SpotsWithin, node_of, chain_of, Sided, spot_of, placed, turned, settled_rows}
 use Rattle.saturation.proofs.Writing.{write_leaves, turns_written, marks_written, winners_written}
-use Rattle.saturation.proofs.Indexing.{bucket_below, index_kept, entered_long, entered_old, entered_new, entered_same, entered_index}
+use Rattle.saturation.proofs.Indexing.{index_kept, entered_long, entered_old, entered_new, entered_same, entered_index}
 use Rattle.saturation.proofs.Siding.{Apart, sides_kept, sides_apart, spots_are, spots_within, statement_apart, mark_apart, winner_apart, index_apart, settled_long, settled_leaves, turn_old, turn_new, settled_sides}
 
 pub record RowFacts (rows : List Row) (settled len : ℕ) (begun : Bool) : Type 0 where

@@ -7,15 +7,13 @@ use Rattle.standpoint.specs.Algebra.{Algebra}
 use Rattle.standpoint.specs.Derivations.{Base}
 use Rattle.saturation.specs.declared.row.Row.{Row}
 use Rattle.saturation.specs.declared.row.Kept.{Kept}
-use Rattle.saturation.specs.declared.side.Spot.{Spot}
 use Rattle.saturation.specs.declared.side.Spots.{Spots}
-use Rattle.saturation.specs.Sides.{SpotsWithin, node_of, settled_rows}
+use Rattle.saturation.specs.Sides.{SpotsWithin, settled_rows}
 use Rattle.saturation.specs.Tables.{State, row_at, statement_at, turn_at, OpenAt, spots_at, settled_row}
 use Rattle.saturation.specs.Places.{KeptRight}
 use Rattle.saturation.specs.Offering.{Apart, BestOf, Grown, RowsRight, Explained}
 use Rattle.saturation.specs.Searching.{Premise, Lists}
 use Rattle.saturation.proofs.Offers.{last_or, equal_or, not_both, in_same}
-use Rattle.saturation.proofs.Indexing.{bucket_below}
 use Rattle.saturation.proofs.Siding.{spots_within, kept_apart, winner_apart, settled_long, settled_leaves, settled_statement, turn_old, turn_new, place_old, place_new}
 use Rattle.saturation.proofs.Rematching.{Touched}
 use Rattle.saturation.proofs.Lists.{Fit, turn_kept}

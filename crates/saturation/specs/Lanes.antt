@@ -5,7 +5,6 @@ use Rattle.standpoint.specs.Statements.{statement}
 use Rattle.saturation.specs.declared.row.Row.{Row}
 use Rattle.saturation.specs.declared.places.Position.{Position}
 use Rattle.saturation.specs.declared.places.Position.TheVariants.{First, Second, Third}
-use Rattle.saturation.specs.declared.side.Side.{Side}
 use Rattle.saturation.specs.declared.side.Side.TheVariants.{Source, Target, Inner, Ending, Through}
 use Rattle.saturation.specs.declared.lane.Lane.{Lane}
 use Rattle.saturation.specs.declared.lane.Lane.TheVariants.{Nowhere, Alone, Along, AlongIn, Only, Outer, Inside}

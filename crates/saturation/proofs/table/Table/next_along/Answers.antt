@@ -1,8 +1,5 @@
-use Rattle.std.proofs.Common.{◌≡◌, ap, sym, subst, ◌∙◌}
+use Rattle.std.proofs.Common.{ap, ◌∙◌}
 use Rattle.saturation.specs.declared.row.Chain.{Chain}
-use Rattle.saturation.specs.declared.lane.Lane.{Lane}
-use Rattle.saturation.specs.Chains.{last_in}
-use Rattle.saturation.specs.Lanes.{track, lane_bucket}
 use Rattle.saturation.proofs.Walking.{none_from, link_sidewise, last_by_number}
 use Rattle.saturation.proofs.table.Table.next_along.Goals as goal
 
