@@ -52,7 +52,8 @@ fn settling_place<G: Copy>(reasoner: &Table<'_, G>, statement: Statement) -> Res
 fn first_settled<G: Copy>(reasoner: &Table<'_, G>, statement: Statement) -> Option<usize>
     ensures { SettledAs (view reasoner.now) statement result }
 {
-    (0..reasoner.settled).find(|&k| reasoner.rows[reasoner.rows[k].turn as usize].statement == statement)
+    (0..reasoner.settled).find(|&k| reasoner.rows[reasoner.rows[k].turn as usize].statement
+        == statement)
 }
 
 // The answer for the t-th settled statement; leaves marks behind.

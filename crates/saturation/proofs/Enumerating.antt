@@ -12,7 +12,7 @@ use Rattle.saturation.specs.Sides.{settled_at}
 use Rattle.saturation.specs.Lanes.{Within, when, takes, beside, partners, last_lane}
 use Rattle.saturation.specs.Tables.{State, statement_at, turn_at}
 use Rattle.saturation.specs.Places.{Step, Uses}
-use Rattle.saturation.specs.Searching.{Went, OnLane, paired, arranged, Lasts, Around, SettledPlaces}
+use Rattle.saturation.specs.Searching.{Went, OnLane, paired, arranged, Lasts, Around}
 use Rattle.saturation.proofs.Lists.{Fit}
 use Rattle.saturation.proofs.Numbering.{nth_position}
 use Rattle.saturation.proofs.Stepping.{step_long, step_few, value_at}
@@ -47,20 +47,6 @@ length_arranged rule Second n i j = middle (rule == 14)
     middle true = refl
     middle false = refl
 length_arranged rule Third n i j = refl
-
-pub settled_paired : (m : ℕ) (position : Position) (n i : ℕ) → n < m → i < m → SettledPlaces m (paired position n i)
-settled_paired m First n i a b = (a, (b, tt))
-settled_paired m Second n i a b = (b, (a, tt))
-settled_paired m Third n i a b = (b, (a, tt))
-
-pub settled_arranged : (m rule : ℕ) (position : Position) (n i j : ℕ) → n < m → i < m → j < m → SettledPlaces m (arranged rule position n i j)
-settled_arranged m rule First n i j a b c = (a, (c, (b, tt)))
-settled_arranged m rule Second n i j a b c = middle (rule == 14)
-  where
-    middle : (q : Bool) → SettledPlaces m (cond q (i ∷ n ∷ j ∷ []) (j ∷ n ∷ i ∷ []))
-    middle true = (b, (a, (c, tt)))
-    middle false = (c, (a, (b, tt)))
-settled_arranged m rule Third n i j a b c = (b, (c, (a, tt)))
 
 module _ {G : Type 0} (al : Algebra G) (v : ℕ) where
   -- all that uses what is settled at n

@@ -19,7 +19,8 @@ use Rattle.saturation.specs.Turns.{FirstOffered, TookTurn, Turned}
 use Rattle.saturation.specs.Saturation.{Holds, WentOn}
 use Rattle.saturation.proofs.Offers.{below_or, none_or, in_same}
 use Rattle.saturation.proofs.Lists.{in_append_left, in_append_right, in_append_cases}
-use Rattle.saturation.proofs.Stepping.{in_getD, offers_up, offers_down, uses_offers, value_at}
+use Rattle.standpoint.proofs.Lists.{in_getD}
+use Rattle.saturation.proofs.Stepping.{offers_up, offers_down, uses_offers, value_at}
 
 -- a settled row's statement stands in the settled list
 pub closed_settled : {G : Type 0} (s : State G) (l : Settled G) → Lists s l → (i : ℕ) → i < s.len → (OpenAt s i → ⊥) → (g : G) × In l (statement_at s i, g)

@@ -15,9 +15,6 @@ use Rattle.saturation.proofs.Offers.{below_or}
 use Rattle.saturation.proofs.Lists.{Fit}
 use Rattle.saturation.proofs.Counting.{not_full, some_open, all_closed}
 
-pub same_capacity : {G : Type 0} (s t : State G) → length t.rows ≡ length s.rows → length t.grades ≡ length s.grades → capacity t ≡ capacity s
-same_capacity s t e f = cc
-
 gt_leb : (m n : ℕ) → n < m → leb m n ≡ false
 gt_leb m n h = grind (arith, nat_tests)
 

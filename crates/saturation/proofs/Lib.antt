@@ -7,7 +7,6 @@ pub mod Offers
 pub mod Lists
 pub mod Numbering
 pub mod Sameness
-pub mod Marks
 pub mod Choosing
 pub mod Rematching
 pub mod Winners

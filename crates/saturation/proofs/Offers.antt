@@ -354,14 +354,5 @@ module _ {G : Type 0} (al : Algebra G) (s : State G) (x : Statement) (g : G) whe
     refused = λ e. absurd (both_ways true e refl);
   }
 
-  pub taken_refused : has_room s ≡ false → Absent s x → Taken al s s x g false
-  taken_refused none absent = record {
-    grown = grown_refl s;
-    apart = λ h. h;
-    only = λ k low h. absurd (let z : ⊥ = omega arith in z);
-    ranked = λ e. absurd (both_ways false refl e);
-    refused = λ _. (refl, none, absent);
-  }
-
 pub keeps_same : {G : Type 0} (al : Algebra G) (s t : State G) (x : Statement) (g : G) (step : Kept) → t ≡ s → Keeps al s t x g step
 keeps_same al s t x g step is = subst (λ z. Keeps al s z x g step) (sym is) (λ base l right all. all)

@@ -16,7 +16,7 @@ use Rattle.saturation.specs.Choosing.{Ahead, Chosen}
 use Rattle.saturation.specs.Turns.{FirstOffered}
 use Rattle.saturation.proofs.Offers.{last_or, none_or, not_both, same_some, in_same}
 use Rattle.saturation.proofs.Lists.{Fit}
-use Rattle.saturation.proofs.Stepping.{in_stands, in_getD}
+use Rattle.standpoint.proofs.Lists.{in_stands, in_getD}
 use Rattle.saturation.proofs.Pigeons.{pigeon}
 
 true_or : (b : Bool) → (b ≡ false → ⊥) → b ≡ true

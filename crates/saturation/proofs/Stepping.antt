@@ -3,6 +3,7 @@ use Rattle.std.proofs.Common.{◌≡◌, ℕ, zero, suc, ◌+◌, ◌<◌, ◌�
 use Rattle.std.proofs.lemmas.List.{get_or_append_left}
 use Rattle.standpoint.specs.declared.statement.Statement.{Statement}
 use Rattle.standpoint.specs.Lists.{In, StandsAt}
+use Rattle.standpoint.proofs.Lists.{in_stands, in_getD}
 use Rattle.standpoint.specs.Algebra.{Algebra}
 use Rattle.standpoint.specs.Rules.{Rule, arity_of}
 use Rattle.standpoint.specs.Derivations.{Base, Leaf}
@@ -77,19 +78,6 @@ pub value_at : {X : Type 0} (xs : List X) (k : ℕ) → k < length xs → (x : X
 value_at [] k h = absurd (let z : ⊥ = omega arith in z)
 value_at (x ∷ xs) zero h = (x, λ d. refl)
 value_at (x ∷ xs) (suc k) h = value_at xs k (omega arith)
-
-pub in_stands : {X : Type 0} (xs : List X) (x : X) → In xs x → (k : ℕ) × StandsAt xs k x
-in_stands [] x m = absurd m
-in_stands (y ∷ ys) x m =
-    ⊎_elim
-    (λ e. (0, (omega arith, λ d. e)))
-    (λ r. let q = in_stands ys x r in let h = q.1.0 in (suc q.0, (omega arith, q.1.1)))
-    m
-
-pub in_getD : {X : Type 0} (xs : List X) (k : ℕ) (d : X) → k < length xs → In xs (get_or xs k d)
-in_getD [] k d h = absurd (let z : ⊥ = omega arith in z)
-in_getD (x ∷ xs) zero d h = inl refl
-in_getD (x ∷ xs) (suc k) d h = inr (in_getD xs k d (omega arith))
 
 pub stands_in : {X : Type 0} (xs : List X) (k : ℕ) (x : X) → StandsAt xs k x → In xs x
 stands_in xs k x a = subst (In xs) (a.1 x) (in_getD xs k x a.0)

@@ -54,7 +54,6 @@ module _ {G : Type 0} (al : Algebra G) (laws : Laws al) (v : ℕ) (s m n t : Sta
       record {
         o = o;
         long = grown.settled;
-        grown_len = grown.more;
         rows_long = grown.rows_long ∙ settled_rows_long s i within rows_fit room;
         grades_long = grown.grades_long;
         next = λ l off old r. next_chosen s l old al laws (λ k h. omega arith) off fit r.best i g.0 (first r.played) g.1;

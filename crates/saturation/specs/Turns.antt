@@ -1,5 +1,5 @@
 -- One turn: the next statement is settled, and what follows from it is offered.
-use Rattle.std.specs.Prelude.{◌≡◌, ℕ, ◌+◌, ◌<◌, ◌≤◌, Bool, true, false, ◌⊎◌, List, [], ◌∷◌, ◌++◌, length}
+use Rattle.std.specs.Prelude.{◌≡◌, ℕ, ◌+◌, ◌<◌, Bool, true, false, ◌⊎◌, List, [], ◌∷◌, ◌++◌, length}
 use Rattle.standpoint.specs.declared.statement.Statement.{Statement}
 use Rattle.standpoint.specs.Lists.{In}
 use Rattle.standpoint.specs.Algebra.{Algebra, NoWorse}
@@ -24,7 +24,6 @@ pub record FirstOffered {G : Type 0} (a : Algebra G) (settled offered : List (St
 pub record TookTurn {G : Type 0} (a : Algebra G) (individuals : ℕ) (s t : State G) (r : Bool) : Type 0 where
   pub o : Statement × G
   pub long : t.settled ≡ s.settled + 1
-  pub grown_len : s.len ≤ t.len
   pub rows_long : length t.rows ≡ length s.rows
   pub grades_long : length t.grades ≡ length s.grades
   pub next : (settled offered : List (Statement × G)) → Lists s settled → Ranked a s offered → FirstOffered a settled offered o

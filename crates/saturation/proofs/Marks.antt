@@ -1,1 +1,0 @@
--- A new row has no mark.
