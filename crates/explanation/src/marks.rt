@@ -9,6 +9,7 @@ ghost use Rattle.explanation.specs.Marks.{mark_at, remarked, with_mark, Clean, B
 use saturation::{Kept, Row, Table};
 use standpoint::Refusal;
 
+// Whether the k-th settled statement is marked.
 pub(crate) fn marked<G: Copy>(reasoner: &Table<'_, G>, k: usize) -> bool
     requires { k < reasoner.now.settled }
     ensures { result ≡ mark_at (view reasoner.now) k }
@@ -58,7 +59,7 @@ fn rests_earlier<G: Copy>(reasoner: &Table<'_, G>, k: usize) -> bool
     ensures { RestsEarlier (view reasoner.now) k result }
 {
     let kept = kept_step(reasoner, k);
-    kept.first.max(kept.second).max(kept.third) <= k
+    kept.first.max(kept.second).max(kept.third) as usize <= k
 }
 
 // Marks a place that counts from 1; 0 is none.
@@ -79,9 +80,9 @@ fn mark_premises<G: Copy>(reasoner: &mut Table<'_, G>, k: usize)
     ensures state { AddsMarks (view reasoner.old) (view reasoner.new) (Rests (view reasoner.old) k) }
 {
     let kept = kept_step(reasoner, k);
-    mark_place(reasoner, kept.first);
-    mark_place(reasoner, kept.second);
-    mark_place(reasoner, kept.third);
+    mark_place(reasoner, kept.first as usize);
+    mark_place(reasoner, kept.second as usize);
+    mark_place(reasoner, kept.third as usize);
 }
 
 // Marks all that the t-th settled statement rests on, from the last to the first; refuses a step that rests on a later one.

@@ -31,9 +31,9 @@ fn renumbered<G: Clone + Copy + Drop>(reasoner: &Table<'_, G>, k: usize) -> Step
     let row = reasoner.rows[at];
     Step {
         rule: row.kept.rule,
-        first: count_marked(reasoner, row.kept.first),
-        second: count_marked(reasoner, row.kept.second),
-        third: count_marked(reasoner, row.kept.third),
+        first: count_marked(reasoner, row.kept.first as usize),
+        second: count_marked(reasoner, row.kept.second as usize),
+        third: count_marked(reasoner, row.kept.third as usize),
         statement: row.statement,
         grade: reasoner.grades[at],
     }

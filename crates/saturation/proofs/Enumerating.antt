@@ -9,7 +9,7 @@ use Rattle.saturation.specs.declared.places.Position.{Position}
 use Rattle.saturation.specs.declared.places.Position.TheVariants.{First, Second, Third}
 use Rattle.saturation.specs.declared.lane.Lane.{Lane}
 use Rattle.saturation.specs.Sides.{settled_at}
-use Rattle.saturation.specs.Lanes.{Within, when, takes, beside, partners, last_lane}
+use Rattle.saturation.specs.Lanes.{Within, when, takes, beside, last_lane}
 use Rattle.saturation.specs.Tables.{State, statement_at, turn_at}
 use Rattle.saturation.specs.Places.{Step, Uses}
 use Rattle.saturation.specs.Searching.{Went, OnLane, paired, arranged, Lasts, Around}
@@ -17,7 +17,7 @@ use Rattle.saturation.proofs.Lists.{Fit}
 use Rattle.saturation.proofs.Numbering.{nth_position}
 use Rattle.saturation.proofs.Stepping.{step_long, step_few, value_at}
 use Rattle.saturation.proofs.Walking.{From, within_listed}
-use Rattle.saturation.proofs.Partners.{At, partner_found, last_found}
+use Rattle.saturation.proofs.Partners.{At, partners, partner_found, last_found}
 use Rattle.saturation.proofs.Searches.{Family, Below, went_as, went_more, went_none}
 
 in_paired : (position : Position) (n i : ℕ) → In (paired position n i) n

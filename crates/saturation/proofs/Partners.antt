@@ -8,10 +8,14 @@ use Rattle.standpoint.specs.Rules.Rule.{role_transitive, sharper_transitive, sha
 use Rattle.saturation.specs.declared.places.Position.{Position}
 use Rattle.saturation.specs.declared.places.Position.TheVariants.{First, Second, Third}
 use Rattle.saturation.specs.declared.lane.Lane.{Lane}
-use Rattle.saturation.specs.Lanes.{partners, last_lane, Within}
+use Rattle.saturation.specs.Lanes.{when, takes, beside, last_lane, Within}
 use Rattle.saturation.specs.Places.{Step, StandAt, statements_of}
 use Rattle.saturation.specs.Searching.{OnLane, arranged, Around}
 use Rattle.saturation.proofs.Stepping.{step_few}
+
+-- the partners of a premise x, settled at n
+abbrev pub partners : ℕ → Position → ℕ → Statement → Lane
+partners rule position n x = when (takes rule position x.shape) (beside rule position n x)
 
 -- n stands at this position among some places
 abbrev pub At : Position → List ℕ → ℕ → Type 0

@@ -11,7 +11,7 @@ use Rattle.saturation.specs.declared.row.Row.{Row}
 use Rattle.saturation.specs.Rows.{no_row}
 use Rattle.saturation.specs.Tables.{State, row_at, statement_at, OpenAt}
 use Rattle.saturation.specs.Choosing.{Ahead, RowAhead, Chosen}
-use Rattle.saturation.specs.Tournament.{above, Under, Beats, Match, Wins, winner_at, Played, PlayedBut, won_by, crowned, ButWinners}
+use Rattle.saturation.specs.Tournament.{parent, Under, Beats, Match, Wins, winner_at, Played, PlayedBut, won_by, crowned, ButWinners}
 use Rattle.saturation.specs.Tournament.Under.{itself, below}
 use Rattle.saturation.proofs.Writing.{write_leaves}
 use Rattle.saturation.proofs.Chaining.{walk_left}
@@ -48,18 +48,18 @@ under_trans u (below v) = below (under_trans u v)
 under_next : (k c j : ℕ) → c ≡ suc j → j / 2 ≡ k → Under k c
 under_next k c j e h = subst (Under k) (sym e) (below (subst (Under k) (sym h) itself))
 
--- row p is above row j, so what is above j, and is not j, is above p
-under_above : {k j p : ℕ} → above j ≡ Some p → k ≢ j → Under k j → Under k p
-under_above e ne itself = absurd (ne refl)
-under_above {k} e ne (below u) = subst (Under k) ((cond_some true _ _ e).1) u
+-- what is above row j, and is not j, is above its parent
+under_parent : {k j p : ℕ} → parent j ≡ Some p → k ≢ j → Under k j → Under k p
+under_parent e ne itself = absurd (ne refl)
+under_parent {k} e ne (below u) = subst (Under k) ((cond_some true _ _ e).1) u
 
-no_row_above : (k : ℕ) → None ≡ above k → k ≡ 0
-no_row_above zero e = refl
-no_row_above (suc k) e = absurd (none-some _ e)
+no_parent : (k : ℕ) → None ≡ parent k → k ≡ 0
+no_parent zero e = refl
+no_parent (suc k) e = absurd (none-some _ e)
 
-above_low : (k p : ℕ) → Some p ≡ above k → p < k
-above_low zero p e = absurd (none-some p (sym e))
-above_low (suc k) p e = let h = (cond_some true p (k / 2) e).1 in omega (arith, h)
+parent_low : (k p : ℕ) → Some p ≡ parent k → p < k
+parent_low zero p e = absurd (none-some p (sym e))
+parent_low (suc k) p e = let h = (cond_some true p (k / 2) e).1 in omega (arith, h)
 
 -- nothing but winners differs
 module _ {G : Type 0} where
@@ -213,7 +213,7 @@ module _ {G : Type 0} (a : Algebra G) (l : Laws a) (s : State G) (fits : s.len �
           (under_split u);
     }
 
--- what is still to be played after the row just below: all that is above this one, or nothing
+-- what is still to be played: at this row and above it, or nothing
 abbrev pub PlayedUpTo : {G : Type 0} → Algebra G → State G → Option ℕ → Type 0
 PlayedUpTo a s None = Played a s
 PlayedUpTo a s (Some k) = (k < s.len) × PlayedBut a s k
@@ -236,11 +236,11 @@ module _ {G : Type 0} (a : Algebra G) (s : State G) (k w : ℕ) (within : k < s.
       (λ ne. subst (Wins a (crowned s k w) j) (sym (winner_other j ne.1)) (but_wins a s (crowned s k w) but j (winner_at s j) (played j lt (never ne.1))))
       (eqb_tells j k)
 
-  pub played_above : (at : Option ℕ) → at ≡ above k → PlayedBut a s k → Wins a s k w → PlayedUpTo a (crowned s k w) at
-  played_above None e played wins = λ j lt. at_row played wins j lt (λ ne u. let h = under_low u in let z = no_row_above k e in omega arith)
-  played_above (Some p) e played wins = (
-    let h = above_low k p e in omega arith,
-    λ j lt never. at_row played wins j lt (λ ne u. never (under_above (sym e) ne u)),
+  pub played_at_parent : (at : Option ℕ) → at ≡ parent k → PlayedBut a s k → Wins a s k w → PlayedUpTo a (crowned s k w) at
+  played_at_parent None e played wins = λ j lt. at_row played wins j lt (λ ne u. let h = under_low u in let z = no_parent k e in omega arith)
+  played_at_parent (Some p) e played wins = (
+    let h = parent_low k p e in omega arith,
+    λ j lt never. at_row played wins j lt (λ ne u. never (under_parent (sym e) ne u)),
   )
 
 -- from s on, with row i changed, all is found up to the row that is next
@@ -259,22 +259,22 @@ module _ {G : Type 0} (a : Algebra G) (s : State G) where
   pub rematched_all : (t : State G) (i : ℕ) (at : Option ℕ) → at ≡ None → Rematched a s t i at → PlayedBut a s i → Played a t
   rematched_all t i at is r p = subst (PlayedUpTo a t) is (r.played p)
 
-  pub rematched_more : (t u : State G) (i : ℕ) (at : Option ℕ) (k w : ℕ) (next : Option ℕ) → t.len ≤ length t.rows → at ≡ Some k → next ≡ above k → u ≡ crowned t k w →
+  pub rematched_more : (t u : State G) (i : ℕ) (at : Option ℕ) (k w : ℕ) (next : Option ℕ) → t.len ≤ length t.rows → at ≡ Some k → next ≡ parent k → u ≡ crowned t k w →
       (PlayedBut a t k → Wins a t k w) → Rematched a s t i at → Rematched a s u i next
   rematched_more t u i at k w next rows_fit is on new wins r =
       let in_t = r.due k is in
       subst (λ (z : State G). Rematched a s z i next) (sym new) (record {
         but = but_trans r.but (but_crowned t k w (omega arith));
-        due = λ j e. let h = above_low k j (sym e ∙ on) in omega arith;
-        played = λ p. let q = subst (PlayedUpTo a t) is (r.played p) in played_above a t k w in_t rows_fit next on q.1 (wins q.1);
+        due = λ j e. let h = parent_low k j (sym e ∙ on) in omega arith;
+        played = λ p. let q = subst (PlayedUpTo a t) is (r.played p) in played_at_parent a t k w in_t rows_fit next on q.1 (wins q.1);
       })
 
-pub above_falls : (at : Option ℕ) (k : ℕ) (next : Option ℕ) → at ≡ Some k → next ≡ above k → walk_left next < walk_left at
-above_falls None k next is on = absurd (none-some k is)
-above_falls (Some i) k None is on = omega arith
-above_falls (Some i) k (Some p) is on =
+pub parent_falls : (at : Option ℕ) (k : ℕ) (next : Option ℕ) → at ≡ Some k → next ≡ parent k → walk_left next < walk_left at
+parent_falls None k next is on = absurd (none-some k is)
+parent_falls (Some i) k None is on = omega arith
+parent_falls (Some i) k (Some p) is on =
     let same : i ≡ k = (cond_some true i k is).1 in
-    let h = above_low k p on in
+    let h = parent_low k p on in
     omega arith
 
 -- below row 0 wins the next of all

@@ -146,10 +146,6 @@ beside rule First n x = beside_first rule n x
 beside rule Second n x = beside_second rule x
 beside rule Third n x = beside_third rule x
 
--- the partners of a premise x, settled at n
-abbrev pub partners : ℕ → Position → ℕ → Statement → Lane
-partners rule position n x = when (takes rule position x.shape) (beside rule position n x)
-
 -- the last of three premises, beside the newest x and its partner y
 abbrev pub last_lane : ℕ → Position → Statement → Statement → Lane
 last_lane rule First x y =

@@ -19,7 +19,7 @@ pub record BestOf {G : Type 0} (a : Algebra G) (s : State G) (offered : List (St
   pub from : (i : ℕ) → i < s.len → OpenAt s i → (d : G) → In offered (statement_at s i, slice_index_or s.grades i d)
   pub best : (i : ℕ) → i < s.len → OpenAt s i → (g : G) → In offered (statement_at s i, g) → (d : G) → NoWorse a (slice_index_or s.grades i d) g
 
--- the same, and each row names the winner below it
+-- the same, and each row names the winner at it
 pub record Ranked {G : Type 0} (a : Algebra G) (s : State G) (offered : List (Statement × G)) : Type 0 where
   pub best : BestOf a s offered
   pub played : Played a s

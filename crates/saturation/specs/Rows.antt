@@ -18,17 +18,17 @@ no_chain = chain 0 None
 abbrev pub no_row : Row
 no_row = record {
   statement = statement 0 0 0 0 0 0;
-  kept = kept 0 0 0 0;
   place = None;
-  turn = 0;
-  mark = false;
-  winner = 0;
   index = no_chain;
+  winner = 0;
+  turn = 0;
   source = no_chain;
   target = no_chain;
   inner = no_chain;
   ending = no_chain;
   through = no_chain;
+  kept = kept 0 0 0 0;
+  mark = false;
 }
 
 -- each turn so far settled a taken row
@@ -39,6 +39,6 @@ TurnsWithin rows settled len = (k : ℕ) → k < settled → (slice_index_or row
 abbrev pub Unmarked : List Row → ℕ → Bool → Type 0
 Unmarked rows len begun = begun ≡ true → (k : ℕ) → k < len → (slice_index_or rows k no_row).mark ≡ false
 
--- each taken row names a taken row as its winner
+-- each taken row names a taken row as the winner at it
 abbrev pub WinnersWithin : List Row → ℕ → Type 0
 WinnersWithin rows len = (k : ℕ) → k < len → (slice_index_or rows k no_row).winner < len

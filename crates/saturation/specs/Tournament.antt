@@ -1,17 +1,17 @@
--- A tournament over the taken rows: row k plays with the winners below rows 2k + 1 and 2k + 2, so that the next one to be settled wins
--- below row 0.
+-- A tournament over the taken rows: row k plays with the winners at rows 2k + 1 and 2k + 2, so that the next one to be settled wins at
+-- row 0.
 use Rattle.std.specs.Prelude.{◌≡◌, ℕ, zero, suc, ◌/◌, ◌<◌, Bool, true, false, length, Some, None, Option}
 use Rattle.standpoint.specs.Algebra.{Algebra}
 use Rattle.saturation.specs.declared.row.Row.{Row}
 use Rattle.saturation.specs.Tables.{State, OpenAt, row_at, with_row}
 use Rattle.saturation.specs.Choosing.{RowAhead}
 
--- the row just above
-abbrev pub above : ℕ → Option ℕ
-above zero = None
-above (suc k) = Some (k / 2)
+-- the row that this one plays at next
+abbrev pub parent : ℕ → Option ℕ
+parent zero = None
+parent (suc k) = Some (k / 2)
 
--- row j is row k, or plays below it
+-- row j is row k, or below it
 pub data Under (k : ℕ) : ℕ → Type 0 where
   itself : Under k k
   below : {j : ℕ} → Under k (j / 2) → Under k (suc j)
@@ -25,7 +25,7 @@ abbrev pub Match : {G : Type 0} → Algebra G → State G → ℕ → ℕ → Bo
 Match a s i j true = Beats a s i j
 Match a s i j false = Beats a s j i
 
--- row w wins below row k
+-- of row k and all below it, w wins
 pub record Wins {G : Type 0} (a : Algebra G) (s : State G) (k w : ℕ) : Type 0 where
   pub within : w < s.len
   pub under : Under k w
@@ -34,15 +34,15 @@ pub record Wins {G : Type 0} (a : Algebra G) (s : State G) (k w : ℕ) : Type 0 
 abbrev pub winner_at : {G : Type 0} → State G → ℕ → ℕ
 winner_at s k = (row_at s k).winner
 
--- each taken row names the winner below it
+-- each taken row names the winner at it
 abbrev pub Played : {G : Type 0} → Algebra G → State G → Type 0
 Played a s = (k : ℕ) → k < s.len → Wins a s k (winner_at s k)
 
--- the same but for row i, and the rows that it plays below
+-- the same but at row i and the rows above it
 abbrev pub PlayedBut : {G : Type 0} → Algebra G → State G → ℕ → Type 0
 PlayedBut a s i = (k : ℕ) → k < s.len → (Under k i → ⊥) → Wins a s k (winner_at s k)
 
--- row w is named as the winner below row k
+-- row w is named as the winner at row k
 abbrev pub won_by : Row → ℕ → Row
 won_by r w = record r { winner = w }
 

@@ -21,7 +21,6 @@ pub(crate) struct Inference<'k, K: Kind> {
     pub rule: Rule,
 }
 
-// That places are settled is said by each call, since they are places in this very table.
 impl<'a, G: Copy> Table<'a, G> {
     // The statements settled at these places.
     fn premises(&self, at: Places) -> Premises

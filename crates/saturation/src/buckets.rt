@@ -24,7 +24,7 @@ fn mixed(hash: u64, number: u64) -> u64
     hash.wrapping_add(number).wrapping_mul(SPREAD)
 }
 
-// The bucket of a statement among so many, by the high bits, in which every number has a part: a division would take longer.
+// The bucket of a statement among so many: by the high bits, on which all numbers bear, and a product, since a division takes longer.
 pub(crate) fn bucket_of(statement: Statement, buckets: usize) -> usize
     requires { 0 < buckets }
     ensures value { result ≡ bucket_of buckets statement }

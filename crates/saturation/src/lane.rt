@@ -1,4 +1,4 @@
-// Lanes: where premises of a kind are found among the settled statements.
+// Lanes: where the premises that a rule looks for are found among the settled statements.
 ghost use Rattle.std.specs.Prelude.{◌≡◌};
 ghost use Rattle.standpoint.specs.Statements.{statement};
 ghost use Rattle.saturation.specs.declared.lane.Lane.TheVariants.{Along, AlongIn, Only};
@@ -8,8 +8,10 @@ ghost use Rattle.saturation.specs.Lanes.{when};
 use crate::side::Side;
 use standpoint::Statement;
 
+// Some of the settled statements.
 #[derive(Clone, Copy)]
 pub(crate) enum Lane {
+    // None of them.
     Nowhere,
     // This place alone.
     Alone(u32),
@@ -34,14 +36,14 @@ impl Lane {
     }
 
     // The statements that start at a node.
-    fn starting(node: Statement) -> Lane
+    fn from_source(node: Statement) -> Lane
         ensures { result ≡ Along Source node }
     {
         Lane::Along(Side::Source, node)
     }
 
     // The statements that end at a node.
-    fn ending(node: Statement) -> Lane
+    fn to_target(node: Statement) -> Lane
         ensures { result ≡ Along Target node }
     {
         Lane::Along(Side::Target, node)
@@ -51,49 +53,49 @@ impl Lane {
     pub(crate) fn sharpened_to(standpoint: u16) -> Lane
         ensures { result ≡ Along Target (statement 1 0 standpoint 0 0 0) }
     {
-        Lane::ending(Statement::sharper(0, standpoint))
+        Lane::to_target(Statement::sharper(0, standpoint))
     }
 
     // The sharpenings from a standpoint.
     pub(crate) fn sharpened_from(standpoint: u16) -> Lane
         ensures { result ≡ Along Source (statement 1 standpoint 0 0 0 0) }
     {
-        Lane::starting(Statement::sharper(standpoint, 0))
+        Lane::from_source(Statement::sharper(standpoint, 0))
     }
 
     // The sharpenings from an intersection of which a standpoint is the first.
     pub(crate) fn both_from(standpoint: u16) -> Lane
         ensures { result ≡ Along Source (statement 2 standpoint 0 0 0 0) }
     {
-        Lane::starting(Statement::intersection_sharper(standpoint, 0, 0))
+        Lane::from_source(Statement::intersection_sharper(standpoint, 0, 0))
     }
 
     // The sharpenings from an intersection of which a standpoint is the second.
     pub(crate) fn both_to(standpoint: u16) -> Lane
         ensures { result ≡ Along Target (statement 2 0 standpoint 0 0 0) }
     {
-        Lane::ending(Statement::intersection_sharper(0, standpoint, 0))
+        Lane::to_target(Statement::intersection_sharper(0, standpoint, 0))
     }
 
     // The nested inclusions that start at c of s.
     pub(crate) fn nested_from(s: u16, c: u16) -> Lane
         ensures { result ≡ Along Source (statement 3 s c 0 0 0) }
     {
-        Lane::starting(Statement::nested_inclusion(s, c, 0, 0, 0))
+        Lane::from_source(Statement::nested_inclusion(s, c, 0, 0, 0))
     }
 
     // The possible inclusions that start at c of s.
     pub(crate) fn possible_from(s: u16, c: u16) -> Lane
         ensures { result ≡ Along Source (statement 4 s c 0 0 0) }
     {
-        Lane::starting(Statement::possible_inclusion(s, c, 0, 0))
+        Lane::from_source(Statement::possible_inclusion(s, c, 0, 0))
     }
 
     // The possible inclusions that end at d of s.
     pub(crate) fn possible_to(s: u16, d: u16) -> Lane
         ensures { result ≡ Along Target (statement 4 0 0 s d 0) }
     {
-        Lane::ending(Statement::possible_inclusion(0, 0, s, d))
+        Lane::to_target(Statement::possible_inclusion(0, 0, s, d))
     }
 
     // This possible inclusion alone.
@@ -135,7 +137,7 @@ impl Lane {
     pub(crate) fn nested_to(s: u16, d: u16) -> Lane
         ensures { result ≡ Along Target (statement 3 0 0 s 0 d) }
     {
-        Lane::ending(Statement::nested_inclusion(0, 0, s, 0, d))
+        Lane::to_target(Statement::nested_inclusion(0, 0, s, 0, d))
     }
 
     // The existentials of a role.
@@ -149,7 +151,7 @@ impl Lane {
     pub(crate) fn existentials_to(s: u16, d: u16) -> Lane
         ensures { result ≡ Along Target (statement 5 s 0 0 d 0) }
     {
-        Lane::ending(Statement::existential_right(s, 0, 0, d))
+        Lane::to_target(Statement::existential_right(s, 0, 0, d))
     }
 
     // The existentials of a role that end at d.
@@ -159,53 +161,53 @@ impl Lane {
         Lane::Along(Side::Ending, Statement::existential_right(s, 0, r, d))
     }
 
-    // What has this role to some c.
+    // The left existentials of this role and c.
     pub(crate) fn left_from(s: u16, r: u16, c: u16) -> Lane
         ensures { result ≡ Along Source (statement 6 s r c 0 0) }
     {
-        Lane::starting(Statement::existential_left(s, r, c, 0))
+        Lane::from_source(Statement::existential_left(s, r, c, 0))
     }
 
     // The conjunctions of which c is the first part.
     pub(crate) fn conjunctions_from(s: u16, c: u16) -> Lane
         ensures { result ≡ Along Source (statement 7 s c 0 0 0) }
     {
-        Lane::starting(Statement::conjunction_left(s, c, 0, 0))
+        Lane::from_source(Statement::conjunction_left(s, c, 0, 0))
     }
 
     // The conjunctions of which c is the second part.
     pub(crate) fn conjunctions_to(s: u16, c: u16) -> Lane
         ensures { result ≡ Along Target (statement 7 s 0 c 0 0) }
     {
-        Lane::ending(Statement::conjunction_left(s, 0, c, 0))
+        Lane::to_target(Statement::conjunction_left(s, 0, c, 0))
     }
 
     // The roles that a role lies within.
     pub(crate) fn roles_from(s: u16, r: u16) -> Lane
         ensures { result ≡ Along Source (statement 8 s r 0 0 0) }
     {
-        Lane::starting(Statement::role_inclusion(s, r, 0))
+        Lane::from_source(Statement::role_inclusion(s, r, 0))
     }
 
     // The roles that lie within a role.
     pub(crate) fn roles_to(s: u16, r: u16) -> Lane
         ensures { result ≡ Along Target (statement 8 s 0 r 0 0) }
     {
-        Lane::ending(Statement::role_inclusion(s, 0, r))
+        Lane::to_target(Statement::role_inclusion(s, 0, r))
     }
 
     // The chains of roles of which r is the first.
     pub(crate) fn chains_from(s: u16, r: u16) -> Lane
         ensures { result ≡ Along Source (statement 9 s r 0 0 0) }
     {
-        Lane::starting(Statement::role_chain(s, r, 0, 0))
+        Lane::from_source(Statement::role_chain(s, r, 0, 0))
     }
 
     // The chains of roles of which r is the second.
     pub(crate) fn chains_to(s: u16, r: u16) -> Lane
         ensures { result ≡ Along Target (statement 9 s 0 r 0 0) }
     {
-        Lane::ending(Statement::role_chain(s, 0, r, 0))
+        Lane::to_target(Statement::role_chain(s, 0, r, 0))
     }
 
     // This sharpening alone.
@@ -215,7 +217,7 @@ impl Lane {
         Lane::Only(Side::Ending, Statement::sharper(s, u))
     }
 
-    // The inclusion within the same that ends at d in place of where x ends, alone.
+    // The nested inclusion x with d in place of where it ends, alone.
     pub(crate) fn inclusion_to(x: Statement, d: u16) -> Lane
         ensures { result ≡ Only Inner (statement 3 x.first x.second x.third x.fourth d) }
     {
@@ -225,7 +227,7 @@ impl Lane {
         )
     }
 
-    // The inclusions from where an existential ends.
+    // The nested inclusions within top that start inside at where an existential ends.
     pub(crate) fn widening(x: Statement) -> Lane
         ensures { result ≡ Along Inner (statement 3 0 0 x.first x.fourth 0) }
     {
@@ -239,6 +241,6 @@ impl Lane {
     pub(crate) fn next_existential(x: Statement, role: u16) -> Lane
         ensures { result ≡ Along Source (statement 5 x.first x.fourth role 0 0) }
     {
-        Lane::starting(Statement::existential_right(x.first, x.fourth, role, 0))
+        Lane::from_source(Statement::existential_right(x.first, x.fourth, role, 0))
     }
 }

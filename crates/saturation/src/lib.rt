@@ -2,11 +2,9 @@
 #![tactic(auto)]
 
 pub use phase::Phase;
-pub use places::{Places, Position};
 pub use row::{Chain, Kept, Row};
 pub use rows::NoRow;
 pub use table::Table;
-pub use turn::Turn;
 
 mod attempt;
 mod buckets;

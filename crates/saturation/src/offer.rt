@@ -39,8 +39,7 @@ impl<'a, G: Copy> Table<'a, G> {
         requires { i < self.now.len }
         ensures { Outdone (K.Kind.algebra kind.now) (view self.now) i grade result }
     {
-        let place = self.rows[i].place;
-        if place.is_some() {
+        if self.is_settled(i) {
             return false;
         }
         !kind.no_worse(self.grades[i], grade)

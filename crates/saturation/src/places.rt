@@ -10,15 +10,15 @@ use standpoint::Rule;
 // Settling places of premises, in joining order. Not `Premises` of places: these have methods of their own, and that type is of the
 // crate below.
 #[derive(Clone, Copy)]
-pub enum Places {
+pub(crate) enum Places {
     One(usize),
     Two(usize, usize),
     Three(usize, usize, usize),
 }
 
-// Where the newest statement stands among three premises: unlike `Beside`, also first.
+// Where the newest statement stands among the premises of a rule.
 #[derive(Clone, Copy)]
-pub enum Position {
+pub(crate) enum Position {
     First,
     Second,
     Third,
@@ -31,9 +31,9 @@ impl Places {
         ensures { result ≡ kept_of (number_of_rule rule) (listed_places self) }
     {
         let (first, second, third) = match self {
-            Places::One(i) => (i + 1, 0, 0),
-            Places::Two(i, j) => (i + 1, j + 1, 0),
-            Places::Three(i, j, k) => (i + 1, j + 1, k + 1),
+            Places::One(i) => (i as u32 + 1, 0, 0),
+            Places::Two(i, j) => (i as u32 + 1, j as u32 + 1, 0),
+            Places::Three(i, j, k) => (i as u32 + 1, j as u32 + 1, k as u32 + 1),
         };
         Kept {
             rule: rule.number(),
@@ -45,6 +45,7 @@ impl Places {
 }
 
 impl Position {
+    // In joining order.
     pub(crate) const ALL: [Position; 3] = [Position::First, Position::Second, Position::Third];
 
     // Two places, the newest at this position.

@@ -1,15 +1,14 @@
 // The rows of a table.
 use standpoint::{ACCEPTED, Statement, TAUTOLOGY};
 
-// What stands in the place of a rule in the `Step` that this is written out as, and the settling places of its premises, from 1,
-// 0 where unused. Plain numbers: a place is written as the count of marked places up to it, and up to 0 there are none, so that
+// The rule, or what stands for one in a `Step`, and the settling places of the premises, from 1, 0 where unused. Plain numbers: a place is written as the count of marked places up to it, and up to 0 there are none, so that
 // no number of premises is a case of its own.
 #[derive(Clone, Copy)]
 pub struct Kept {
     pub rule: u8,
-    pub first: usize,
-    pub second: usize,
-    pub third: usize,
+    pub first: u32,
+    pub second: u32,
+    pub third: u32,
 }
 
 impl Kept {
@@ -48,7 +47,7 @@ impl Chain {
 }
 
 // A statement with the step that gave its grade.
-// Fields that are read together stand together, and numbers of rows take no more room than the most rows need.
+// Numbers of rows take no more room than the most rows need. Fields that are read together stand together.
 #[derive(Clone, Copy)]
 pub struct Row {
     pub statement: Statement,
@@ -56,7 +55,7 @@ pub struct Row {
     pub place: Option<u32>,
     // The taken rows, by statement.
     pub index: Chain,
-    // A column of its own: in the k-th row, from 0, the winner below it, of the tournament over the taken rows.
+    // A column of its own: in the k-th row, from 0, the winner at it, of the tournament over the taken rows.
     pub winner: u32,
     // A column of its own, since no memory but the lent rows is at hand: in the k-th row, from 0, the row that was settled k-th.
     pub turn: u32,
@@ -75,16 +74,16 @@ impl Row {
     // What memory may hold before it is lent.
     pub const EMPTY: Row = Row {
         statement: Statement::CONTRADICTION,
-        kept: Kept::ACCEPTED,
         place: None,
-        turn: 0,
-        mark: false,
-        winner: 0,
         index: Chain::EMPTY,
+        winner: 0,
+        turn: 0,
         source: Chain::EMPTY,
         target: Chain::EMPTY,
         inner: Chain::EMPTY,
         ending: Chain::EMPTY,
         through: Chain::EMPTY,
+        kept: Kept::ACCEPTED,
+        mark: false,
     };
 }

@@ -2,6 +2,7 @@
 ghost use Rattle.std.specs.Prelude.{◌≡◌, ℕ, ◌+◌, ◌<◌, ◌≤◌, false, length, if◌then◌else◌, is_ok, MatchOption, slice_index_or};
 ghost use Rattle.saturation.specs.Tables.{view, Same, Found, has_room, pushed, taken_row, improved, statement_at, turn_at, row_at};
 ghost use Rattle.saturation.specs.Searching.{Premise};
+ghost use Rattle.std.specs.Option.{is_some};
 
 use crate::buckets::{bucket_of, enter};
 use crate::row::{Chain, Kept, Row};
@@ -9,7 +10,7 @@ use crate::table::Table;
 use standpoint::Statement;
 
 // Every row is taken.
-#[derive(Clone, Copy, PartialEq, Eq)]
+#[derive(Clone, Copy)]
 pub struct NoRow;
 
 // No table uses more rows.
@@ -72,6 +73,15 @@ impl<'a, G: Copy> Table<'a, G> {
     {
         self.rows[i].kept = kept;
         self.grades[i] = grade;
+    }
+
+    // Whether row i is settled.
+    pub(crate) fn is_settled(&self, i: usize) -> bool
+        requires { i < self.now.len }
+        ensures { result ≡ is_some (row_at (view self.now) i).place }
+    {
+        let place = self.rows[i].place;
+        place.is_some()
     }
 
     // The k-th settled statement with its grade, from 0; none past the last.

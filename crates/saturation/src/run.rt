@@ -40,7 +40,7 @@ impl<'a, G: Copy> Table<'a, G> {
         }
     }
 
-    // Settles the next statement of the run that the rows hold, and offers all that follows from it.
+    // The same turn in the words of a run: `settle_one` speaks of rows alone.
     fn go_on<K: Kind<Grade = G>>(&mut self, kind: &K) -> Turn
         ensures same { Same self.old self.new }
         ensures long { capacity (view self.new) ≡ capacity (view self.old) }

@@ -21,11 +21,11 @@ pub(crate) enum Side {
     Source,
     // Where it ends.
     Target,
-    // Where the inclusion inside a nested one starts, and within what; an existential's role.
+    // Where the inclusion inside a nested one starts, and within what; an existential's role; any other statement whole.
     Inner,
-    // Where the inclusion inside a nested one ends, and within what; an existential's role and where it ends.
+    // Where the inclusion inside a nested one ends, and within what; an existential's role and where it ends; any other whole.
     Ending,
-    // The inclusion inside a nested one.
+    // The inclusion inside a nested one; any other statement whole.
     Through,
 }
 

@@ -1,17 +1,17 @@
-// The tournament over the taken rows: row k plays with the winners below rows 2k + 1 and 2k + 2, and the next one to be settled wins
-// below row 0. Where all rows below another are settled, any of them is its winner.
+// The tournament over the taken rows. Row k plays with the winners at rows 2k + 1 and 2k + 2, so that the winner at a row is that of
+// itself and of all rows below it, and the winner at row 0 is settled next. Where all of these are settled, any is the winner.
 ghost use Rattle.std.specs.Prelude.{◌≡◌, ◌<◌, ◌⊎◌};
 ghost use Rattle.standpoint.specs.Algebra.{Algebra};
 ghost use Rattle.saturation.specs.Tables.{view, Same};
 ghost use Rattle.saturation.specs.Choosing.{Picked, Chosen};
-ghost use Rattle.saturation.specs.Tournament.{above, Beats, Match, Wins, winner_at, Played, PlayedBut, crowned, ButWinners};
+ghost use Rattle.saturation.specs.Tournament.{parent, Beats, Match, Wins, winner_at, Played, PlayedBut, crowned, ButWinners};
 
 use crate::table::Table;
 use standpoint::Kind;
 
-// The row just above, or none.
-fn above(k: usize) -> Option<usize>
-    ensures { result ≡ above k }
+// The row that this one plays at next, or none.
+fn parent(k: usize) -> Option<usize>
+    ensures { result ≡ parent k }
 {
     match k {
         0 => None,
@@ -27,11 +27,10 @@ impl<'a, G: Copy> Table<'a, G> {
         ensures first { (a : Algebra G) → Played a (view self.now) → Chosen a (view self.now) self.now.len result }
     {
         let i = self.rows[0].winner as usize;
-        let place = self.rows[i].place;
-        if place.is_some() { None } else { Some(i) }
+        if self.is_settled(i) { None } else { Some(i) }
     }
 
-    // Row i is new, or has changed: the winners are found anew below it and below each row that it plays below.
+    // Row i is new, or has changed: it may win at itself and at the rows above, so that the winners there are found anew.
     pub(crate) fn rematch<K: Kind<Grade = G>>(&mut self, kind: &K, i: usize)
         requires { i < self.old.len }
         ensures same { Same self.old self.new }
@@ -42,11 +41,11 @@ impl<'a, G: Copy> Table<'a, G> {
         while let Some(k) = at {
             let winner = self.winner_of(kind, k);
             self.set_winner(k, winner);
-            at = above(k);
+            at = parent(k);
         }
     }
 
-    // The winner below row k, by those just below it.
+    // The winner at row k, by those at the two rows just below.
     fn winner_of<K: Kind<Grade = G>>(&self, kind: &K, k: usize) -> usize
         requires { k < self.now.len }
         ensures within { result < self.now.len }
@@ -56,7 +55,7 @@ impl<'a, G: Copy> Table<'a, G> {
         self.first_of(kind, winner, 2 * k + 2)
     }
 
-    // Of row i and the winner below row k, if that is taken, the one that goes first.
+    // Of row i and the winner at row k, if that is taken, the one that goes first.
     fn first_of<K: Kind<Grade = G>>(&self, kind: &K, i: usize, k: usize) -> usize
         requires { i < self.now.len }
         ensures within { result < self.now.len }
@@ -79,18 +78,16 @@ impl<'a, G: Copy> Table<'a, G> {
         requires { (i < self.now.len) × (j < self.now.len) }
         ensures { Match (K.Kind.algebra kind.now) (view self.now) i j result }
     {
-        let place = self.rows[i].place;
-        if place.is_some() {
+        if self.is_settled(i) {
             return false;
         }
-        let place = self.rows[j].place;
-        if place.is_some() {
+        if self.is_settled(j) {
             return true;
         }
         self.row_ahead(kind, i, j)
     }
 
-    // Row w is the winner below row k.
+    // Row w is the winner at row k.
     fn set_winner(&mut self, k: usize, w: usize)
         requires { (k < self.old.len) × (w < self.old.len) }
         ensures same { Same self.old self.new }

@@ -11,7 +11,7 @@ use standpoint::Kind;
 
 // What a turn came to.
 #[derive(Clone, Copy)]
-pub enum Turn {
+pub(crate) enum Turn {
     // Every taken row was settled before.
     Nothing,
     // One more is settled, and all that follows from it is offered.

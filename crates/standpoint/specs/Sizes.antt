@@ -2,7 +2,7 @@
 use Rattle.std.specs.Prelude.{◌+◌, ◌≤◌}
 use Rattle.standpoint.specs.declared.sizes.Sizes.{Sizes}
 
--- 1 to 16 standpoints, 2 to 64 concepts, at most 16 roles, at most 16 individuals and two fewer than concepts
+-- 1 to 16 standpoints, 2 to 64 concepts, at most 16 roles, at most 16 individuals and no more than there are concepts beside top and bottom
 pub record InRange (n : Sizes) : Type 0 where
   pub some_standpoint : 1 ≤ n.standpoints
   pub standpoints : n.standpoints ≤ 16

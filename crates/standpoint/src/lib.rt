@@ -16,6 +16,7 @@ mod kinds;
 mod premises;
 mod refusal;
 mod rules;
+// The shapes of statements by name.
 pub mod shape;
 mod sizes;
 mod statement;

@@ -1,4 +1,4 @@
-// Letters: how a house marks its own labels.
+// Letters: how an archive marks its own labels.
 ghost use Rattle.standpoint.specs.Grades.{letter};
 ghost use Rattle.std.proofs.Common.{rules};
 

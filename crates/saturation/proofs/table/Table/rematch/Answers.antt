@@ -1,7 +1,7 @@
 use Rattle.std.proofs.Common.{refl}
 use Rattle.saturation.specs.Tables.{view}
 use Rattle.saturation.proofs.Sameness.{same_then}
-use Rattle.saturation.proofs.Rematching.{rematched_none, rematched_more, rematched_all, row_due, above_falls}
+use Rattle.saturation.proofs.Rematching.{rematched_none, rematched_more, rematched_all, row_due, parent_falls}
 use Rattle.saturation.proofs.table.Table.rematch.Goals as goal
 
 pub loop-at-init : goal.loop-at-init
@@ -17,13 +17,13 @@ set_winner-requires g c = (
 )
 
 pub loop-at-smaller : goal.loop-at-smaller
-loop-at-smaller g c = above_falls c.loop-at.at c.in-Some.k c.above-at.result c.in-Some.is c.above-at.ensures
+loop-at-smaller g c = parent_falls c.loop-at.at c.in-Some.k c.parent-at.result c.in-Some.is c.parent-at.ensures
 
 pub loop-at-preserved : goal.loop-at-preserved
 loop-at-preserved g c =
     let t = c.loop-at.self in (
       same_then c.loop-at.invariant.0 c.set_winner.ensures.same,
-      rematched_more (g.K.Kind.algebra c.args.kind.now) (view c.args.self.now) (view t) (view c.set_winner.new.self) c.args.i c.loop-at.at c.in-Some.k c.winner_of-winner.result c.above-at.result t.rows_fit c.in-Some.is c.above-at.ensures c.set_winner.ensures.state c.winner_of-winner.ensures.wins c.loop-at.invariant.1,
+      rematched_more (g.K.Kind.algebra c.args.kind.now) (view c.args.self.now) (view t) (view c.set_winner.new.self) c.args.i c.loop-at.at c.in-Some.k c.winner_of-winner.result c.parent-at.result t.rows_fit c.in-Some.is c.parent-at.ensures c.set_winner.ensures.state c.winner_of-winner.ensures.wins c.loop-at.invariant.1,
     )
 
 pub returns-clause-same : goal.returns-clause-same
