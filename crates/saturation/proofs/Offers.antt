@@ -11,7 +11,7 @@ use Rattle.saturation.specs.declared.row.Row.{Row}
 use Rattle.standpoint.specs.Lists.{In}
 use Rattle.saturation.specs.Rows.{no_row}
 use Rattle.saturation.specs.Buckets.{bucket_of, headed}
-use Rattle.saturation.specs.Tables.{State, row_at, statement_at, Absent, has_room, pushed, improved, rekept}
+use Rattle.saturation.specs.Tables.{State, capacity, row_at, statement_at, Absent, has_room, pushed, improved, rekept}
 use Rattle.saturation.specs.Offering.{Apart, BestOf, Grown, Taken, Outdone, Keeps}
 use Rattle.saturation.proofs.Writing.{write_leaves}
 use Rattle.saturation.specs.Tournament.{Played, PlayedBut, ButWinners}
@@ -85,13 +85,19 @@ grown_trans {G} {s} {t} {u} a b =
       grades_long = b.grades_long ∙ a.grades_long;
     }
 
-module _ {G : Type 0} (s : State G) (x : Row) (g : G) (rows_in : s.len < length s.rows) (grades_in : s.len < length s.grades) where
+module _ {G : Type 0} (s : State G) (x : Row) (g : G) (room : s.len < capacity s) where
+  used : capacity s ≤ length s.rows
+  used = omega arith
+
+  grades_in : s.len < length s.grades
+  grades_in = omega arith
+
   -- of the rows each column but the heads
   old_column : {X : Type 0} (f : Row → X) → ((r : Row) (k : ℕ) → f (headed r k) ≡ f r) → (k : ℕ) → k < s.len → f (row_at (pushed s x g) k) ≡ f (row_at s k)
-  old_column f apart k h = entered_old s.rows s.len x (bucket_of (length s.rows) x.statement) refl rows_in f apart k (λ e. omega arith)
+  old_column f apart k h = entered_old (capacity s) s.rows s.len x (bucket_of (capacity s) x.statement) refl room used f apart k (λ e. omega arith)
 
   new_column : {X : Type 0} (f : Row → X) → ((r : Row) (k : ℕ) → f (headed r k) ≡ f r) → (k : ℕ) → k ≡ s.len → f (row_at (pushed s x g) k) ≡ f x
-  new_column f apart k e = ap (λ (j : ℕ). f (row_at (pushed s x g) j)) e ∙ entered_new s.rows s.len x (bucket_of (length s.rows) x.statement) refl rows_in f apart
+  new_column f apart k e = ap (λ (j : ℕ). f (row_at (pushed s x g) j)) e ∙ entered_new (capacity s) s.rows s.len x (bucket_of (capacity s) x.statement) refl room used f apart
 
   statement_old : (k : ℕ) → k < s.len → statement_at (pushed s x g) k ≡ statement_at s k
   statement_old = old_column (λ (r : Row). r.statement) (λ r k. refl)
@@ -120,7 +126,7 @@ module _ {G : Type 0} (s : State G) (x : Row) (g : G) (rows_in : s.len < length 
     turns = old_column (λ (r : Row). r.turn) (λ r k. refl);
     fresh = λ k low h. new_column (λ (r : Row). r.place) (λ r k. refl) k (omega arith) ∙ un;
     kept = λ k h p. (kept_old k h, old_grade k h);
-    rows_long = entered_long s.rows s.len x (bucket_of (length s.rows) x.statement) refl rows_in;
+    rows_long = entered_long (capacity s) s.rows s.len x (bucket_of (capacity s) x.statement) refl room used;
     grades_long = length-set s.grades s.len g;
   }
 
@@ -295,26 +301,23 @@ module _ {G : Type 0} (al : Algebra G) (s m t : State G) (x : Row) (g : G) (room
   from_pushed : ButWinners (pushed s x g) t
   from_pushed = subst (λ (z : State G). ButWinners z t) is but
 
-  rows_in : s.len < length s.rows
-  rows_in = grind (arith, nat_tests)
-
-  grades_in : s.len < length s.grades
-  grades_in = grind (arith, nat_tests)
+  within : s.len < capacity s
+  within = grind (arith, nat_tests)
 
   pub taken_pushed : Laws al → x.place ≡ None → Absent s x.statement → (PlayedBut al m s.len → Played al t) → Taken al s t x.statement g true
   taken_pushed l un absent played = record {
-    grown = grown_trans (pushed_grown s x g rows_in grades_in un) (but_grown from_pushed);
-    apart = λ h. but_apart from_pushed (pushed_apart s x g rows_in grades_in absent h);
-    only = λ k low h. let e = from_pushed.len in but_statement from_pushed k ∙ statement_new s x g rows_in grades_in k (omega arith);
+    grown = grown_trans (pushed_grown s x g within un) (but_grown from_pushed);
+    apart = λ h. but_apart from_pushed (pushed_apart s x g within absent h);
+    only = λ k low h. let e = from_pushed.len in but_statement from_pushed k ∙ statement_new s x g within k (omega arith);
     ranked = λ _ offered r. record {
-      best = but_best from_pushed al _ (pushed_best s x g rows_in grades_in al l absent offered r.best);
-      played = played (subst (λ (z : State G). PlayedBut al z s.len) (sym is) (touched_played al s (pushed s x g) s.len (pushed_touched s x g rows_in grades_in) r.played));
+      best = but_best from_pushed al _ (pushed_best s x g within al l absent offered r.best);
+      played = played (subst (λ (z : State G). PlayedBut al z s.len) (sym is) (touched_played al s (pushed s x g) s.len (pushed_touched s x g within) r.played));
     };
     refused = λ e. absurd (both_ways true e refl);
   }
 
   pub keeps_pushed : Keeps al s t x.statement g x.kept
-  keeps_pushed base l right all = but_right from_pushed al base l (pushed_right s x g rows_in grades_in al base l right all)
+  keeps_pushed base l right all = but_right from_pushed al base l (pushed_right s x g within al base l right all)
 
 -- a better grade, and the winners found anew
 module _ {G : Type 0} (al : Algebra G) (s m t : State G) (i : ℕ) (x : Statement) (g : G) (kept : Kept) (is : m ≡ improved s i g kept) (but : ButWinners m t)

@@ -1,5 +1,5 @@
 -- The chains of the settled statements on each side: what keeps them, and one settled more.
-use Rattle.std.proofs.Common.{◌≡◌, ◌≢◌, ℕ, ◌+◌, ◌<◌, List, length, get_or, Some, sym, refl, ap, ◌∙◌, arith, length-set}
+use Rattle.std.proofs.Common.{◌≡◌, ◌≢◌, ℕ, ◌+◌, ◌<◌, ◌≤◌, List, length, get_or, Some, sym, refl, ap, ◌∙◌, arith, length-set}
 use Rattle.standpoint.specs.declared.statement.Statement.{Statement}
 use Rattle.saturation.specs.declared.row.Chain.{Chain}
 use Rattle.saturation.specs.declared.row.Row.{Row}
@@ -24,13 +24,13 @@ same_chains r q a b c d e Ending = d
 same_chains r q a b c d e Through = e
 
 -- the same statements settled at the same places
-module _ (rows new : List Row) (long : length new ≡ length rows) (n : ℕ) (same : (k : ℕ) → k < n → settled_at new k ≡ settled_at rows k) where
-  side_same : (side : Side) (k : ℕ) → k < n → side_bucket side new k ≡ side_bucket side rows k
-  side_same side k h = ap (λ (m : ℕ). bucket_of m (node_of side (settled_at new k))) long ∙ ap (λ (x : Statement). bucket_of (length rows) (node_of side x)) (same k h)
+module _ (buckets : ℕ) (rows new : List Row) (n : ℕ) (same : (k : ℕ) → k < n → settled_at new k ≡ settled_at rows k) where
+  side_same : (side : Side) (k : ℕ) → k < n → side_bucket side buckets new k ≡ side_bucket side buckets rows k
+  side_same side k h = ap (λ (x : Statement). bucket_of buckets (node_of side x)) (same k h)
 
-  pub sides_kept : ((side : Side) (k : ℕ) → chain_of side (get_or new k no_row) ≡ chain_of side (get_or rows k no_row)) → Sided rows n → Sided new n
+  pub sides_kept : ((side : Side) (k : ℕ) → chain_of side (get_or new k no_row) ≡ chain_of side (get_or rows k no_row)) → Sided buckets rows n → Sided buckets new n
   sides_kept chain sides side =
-      chained_same (side_bucket side rows) (side_bucket side new) (heads_in (chain_of side) rows) (heads_in (chain_of side) new) (links_in (chain_of side) rows) (links_in (chain_of side) new) n
+      chained_same (side_bucket side buckets rows) (side_bucket side buckets new) (heads_in (chain_of side) rows) (heads_in (chain_of side) new) (links_in (chain_of side) rows) (links_in (chain_of side) new) n
       (side_same side) (λ k h. ap (λ (c : Chain). c.link) (chain side k)) (sides side) (λ b. ap (λ (c : Chain). c.head) (chain side b))
 
 -- a head that is set leaves the other columns
@@ -130,23 +130,23 @@ sides_apart Inner r j = refl
 sides_apart Ending r j = refl
 sides_apart Through r j = refl
 
-pub spots_are : (rows : List Row) (n : ℕ) (x : Statement) (spots : Spots) → spots ≡ spots_of rows n x → (side : Side) → on spots side ≡ spot_of side rows n (node_of side x)
-spots_are rows n x spots is side = ap (λ (v : Spots). on v side) is ∙ each side
+pub spots_are : (buckets : ℕ) (rows : List Row) (n : ℕ) (x : Statement) (spots : Spots) → spots ≡ spots_of buckets rows n x → (side : Side) → on spots side ≡ spot_of side buckets rows n (node_of side x)
+spots_are buckets rows n x spots is side = ap (λ (v : Spots). on v side) is ∙ each side
   where
-    each : (side : Side) → on (spots_of rows n x) side ≡ spot_of side rows n (node_of side x)
+    each : (side : Side) → on (spots_of buckets rows n x) side ≡ spot_of side buckets rows n (node_of side x)
     each Source = refl
     each Target = refl
     each Inner = refl
     each Ending = refl
     each Through = refl
 
-pub spots_within : (rows : List Row) (n : ℕ) (x : Statement) → 0 < length rows → SpotsWithin (spots_of rows n x) (length rows)
-spots_within rows n x some =
-    let below : (side : Side) → bucket_of (length rows) (node_of side x) < length rows = λ side. bucket_below (length rows) (node_of side x) some in
+pub spots_within : (buckets : ℕ) (rows : List Row) (n : ℕ) (x : Statement) → 0 < buckets → SpotsWithin (spots_of buckets rows n x) buckets
+spots_within buckets rows n x some =
+    let below : (side : Side) → bucket_of buckets (node_of side x) < buckets = λ side. bucket_below buckets (node_of side x) some in
     (below Source, below Target, below Inner, below Ending, below Through)
 
 -- row i is settled n-th
-module _ (rows : List Row) (n i : ℕ) (spots : Spots) (at_n : n < length rows) (at_i : i < length rows) (at_spot : SpotsWithin spots (length rows)) where
+module _ (rows : List Row) (n i : ℕ) (spots : Spots) (buckets : ℕ) (few : buckets ≤ length rows) (at_n : n < length rows) (at_i : i < length rows) (at_spot : SpotsWithin spots buckets) where
   abbrev named : List Row
   named = turn_set rows n i spots
 
@@ -340,24 +340,23 @@ module _ (rows : List Row) (n i : ℕ) (spots : Spots) (at_n : n < length rows) 
   link_turned Ending r = refl
   link_turned Through r = refl
 
-  module _ (at_spots : (side : Side) → on spots side ≡ spot_of side rows n (node_of side (get_or rows i no_row).statement)) (sides : Sided rows n) where
+  module _ (at_spots : (side : Side) → on spots side ≡ spot_of side buckets rows n (node_of side (get_or rows i no_row).statement)) (sides : Sided buckets rows n) where
     same_settled : (k : ℕ) → k < n → settled_at new k ≡ settled_at rows k
     same_settled k h = ap (λ (j : ℕ). (get_or new j no_row).statement) (turn_old k (λ e. omega arith)) ∙ settled_statement (get_or rows k no_row).turn
 
-    bucket_new : (side : Side) → side_bucket side new n ≡ (on spots side).bucket
+    bucket_new : (side : Side) → side_bucket side buckets new n ≡ (on spots side).bucket
     bucket_new side =
-        ap (λ (m : ℕ). bucket_of m (node_of side (settled_at new n))) settled_long
-        ∙ ap (λ (x : Statement). bucket_of (length rows) (node_of side x)) (ap (λ (j : ℕ). (get_or new j no_row).statement) turn_new ∙ settled_statement i)
+        ap (λ (x : Statement). bucket_of buckets (node_of side x)) (ap (λ (j : ℕ). (get_or new j no_row).statement) turn_new ∙ settled_statement i)
         ∙ sym (ap (λ (v : Spot). v.bucket) (at_spots side))
 
-    link_new : (side : Side) → links_in (chain_of side) new n ≡ last_in (side_bucket side rows) (on spots side).bucket n
+    link_new : (side : Side) → links_in (chain_of side) new n ≡ last_in (side_bucket side buckets rows) (on spots side).bucket n
     link_new side =
         settled_here (λ (r : Row). (chain_of side r).link) (link_apart side) (link_placed side) ∙ link_turned side (get_or rows n no_row)
-        ∙ ap (λ (v : Spot). v.last) (at_spots side) ∙ ap (λ (b : ℕ). last_in (side_bucket side rows) b n) (sym (ap (λ (v : Spot). v.bucket) (at_spots side)))
+        ∙ ap (λ (v : Spot). v.last) (at_spots side) ∙ ap (λ (b : ℕ). last_in (side_bucket side buckets rows) b n) (sym (ap (λ (v : Spot). v.bucket) (at_spots side)))
 
-    pub settled_sides : Sided new (n + 1)
+    pub settled_sides : Sided buckets new (n + 1)
     settled_sides side =
-        chained_next (side_bucket side rows) (side_bucket side new) (heads_in (chain_of side) rows) (heads_in (chain_of side) new) (links_in (chain_of side) rows) (links_in (chain_of side) new) n
-        (side_same rows new settled_long n same_settled side)
+        chained_next (side_bucket side buckets rows) (side_bucket side buckets new) (heads_in (chain_of side) rows) (heads_in (chain_of side) new) (links_in (chain_of side) rows) (links_in (chain_of side) new) n
+        (side_same buckets rows new n same_settled side)
         (λ k h. settled_there (λ (r : Row). (chain_of side r).link) (link_apart side) (link_placed side) k (λ e. omega arith))
         (sides side) (on spots side).bucket (bucket_new side) (head_new side) (head_old side) (link_new side)

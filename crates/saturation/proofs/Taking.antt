@@ -1,8 +1,8 @@
 -- One turn, put together.
-use Rattle.std.proofs.Common.{◌≡◌, ℕ, ◌<◌, ◌≤◌, Bool, List, [], ◌∷◌, ◌++◌, length, Some, sym, ◌∙◌, subst, arith}
+use Rattle.std.proofs.Common.{◌≡◌, ℕ, ◌<◌, ◌≤◌, Bool, List, [], ◌∷◌, ◌++◌, Some, sym, ◌∙◌, subst, arith}
 use Rattle.standpoint.specs.declared.statement.Statement.{Statement}
 use Rattle.standpoint.specs.Algebra.{Algebra, Laws}
-use Rattle.saturation.specs.Tables.{State, statement_at, OpenAt, settled_row}
+use Rattle.saturation.specs.Tables.{State, capacity, statement_at, OpenAt, settled_row}
 use Rattle.saturation.specs.Places.{Uses}
 use Rattle.saturation.specs.Offering.{Ranked, Grown}
 use Rattle.saturation.specs.Searching.{Lists, Enumerated, Stuck, Went}
@@ -19,7 +19,7 @@ use Rattle.saturation.proofs.Settling.{settled_rows_long, settled_lists, settled
 
 -- row i is settled, the winners are found anew, and a search follows
 module _ {G : Type 0} (al : Algebra G) (laws : Laws al) (v : ℕ) (s m n t : State G) (i : ℕ) (b : Bool) (fit : Fit s) (fit_m : Fit m)
-    (rows_fit : s.len ≤ length s.rows) (grades_fit : s.len ≤ length s.grades) (room : s.settled < s.len)
+    (fits : s.len ≤ capacity s) (room : s.settled < s.len)
     (picked : Picked s (Some i)) (first : Played al s → Chosen al s s.len (Some i)) (is : m ≡ settled_row s i)
     (but : ButWinners m n) (again : PlayedBut al m i → Played al n)
     (went : Went al v n t (λ l. Uses al v l s.settled) (λ l. Uses al v l s.settled) b) where
@@ -40,8 +40,8 @@ module _ {G : Type 0} (al : Algebra G) (laws : Laws al) (v : ℕ) (s m n t : Sta
 
   ranked : (off : List (Statement × G)) → Ranked al s off → Ranked al n off
   ranked off r = record {
-    best = but_best from_settled al off (settled_best s i within rows_fit room al off r.best);
-    played = again (subst (λ (z : State G). PlayedBut al z i) (sym is) (touched_played al s (settled_row s i) i (settled_touched s i within rows_fit room) r.played));
+    best = but_best from_settled al off (settled_best s i within fits room al off r.best);
+    played = again (subst (λ (z : State G). PlayedBut al z i) (sym is) (touched_played al s (settled_row s i) i (settled_touched s i within fits room) r.played));
   }
 
   pub took_turn : TookTurn al v s t b
@@ -49,17 +49,17 @@ module _ {G : Type 0} (al : Algebra G) (laws : Laws al) (v : ℕ) (s m n t : Sta
       let g = value_at s.grades i (omega arith) in
       let o : Statement × G = (statement_at s i, g.0) in
       let more = grown.more in
-      let listed : (l : List (Statement × G)) → Lists s l → Lists (settled_row s i) (l ++ o ∷ []) = λ l old. settled_lists s i within rows_fit room l g.0 picked.1 g.1 old in
+      let listed : (l : List (Statement × G)) → Lists s l → Lists (settled_row s i) (l ++ o ∷ []) = λ l old. settled_lists s i within fits room l g.0 picked.1 g.1 old in
       let relisted : (l : List (Statement × G)) → Lists s l → Lists n (l ++ o ∷ []) = λ l old. lists_grown (settled_row s i) n (l ++ o ∷ []) settled_fit settled_grown (listed l old) in
       record {
         o = o;
         long = grown.settled;
-        rows_long = grown.rows_long ∙ settled_rows_long s i within rows_fit room;
+        rows_long = grown.rows_long ∙ settled_rows_long s i within fits room;
         grades_long = grown.grades_long;
         next = λ l off old r. next_chosen s l old al laws (λ k h. omega arith) off fit r.best i g.0 (first r.played) g.1;
         lists = λ l old. lists_grown (settled_row s i) t (l ++ o ∷ []) settled_fit grown (listed l old);
-        apart = λ h. went.apart (but_apart from_settled (settled_apart s i within rows_fit room h));
-        old = λ k h. grown.statements k h ∙ settled_statements s i within rows_fit room k;
+        apart = λ h. went.apart (but_apart from_settled (settled_apart s i within fits room h));
+        old = λ k h. grown.statements k h ∙ settled_statements s i within fits room k;
         new = λ l old k low h.
             let e = from_settled.len in
             let u = went.new (l ++ o ∷ []) (relisted l old) k (omega arith) h in
@@ -69,8 +69,8 @@ module _ {G : Type 0} (al : Algebra G) (laws : Laws al) (v : ℕ) (s m n t : Sta
             record { os = en.os; ranked = λ off r. en.ranked off (ranked off r); sound = en.sound; complete = en.complete };
         stuck = λ e l old. subst (λ (j : ℕ). Stuck t (Uses al v (l ++ o ∷ []) j)) (sym old.long) (went.stuck e (l ++ o ∷ []) (relisted l old));
         keeps = λ base e l old right explained.
-            let right_n = but_right from_settled al base (l ++ o ∷ []) (settled_right s i within rows_fit room al base l o right) in
-            let explained_m = settled_explained s i within rows_fit room al base l g.0 picked.1 g.1 old right explained in
+            let right_n = but_right from_settled al base (l ++ o ∷ []) (settled_right s i within fits room al base l o right) in
+            let explained_m = settled_explained s i within fits room al base l g.0 picked.1 g.1 old right explained in
             (went.keeps base e (l ++ o ∷ []) (relisted l old) right_n, explained_grown al (settled_row s i) t base (l ++ o ∷ []) settled_fit grown (listed l old) explained_m);
       }
 

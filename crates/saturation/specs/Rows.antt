@@ -1,5 +1,5 @@
 -- Rows alone: what a table's ghost fields say of them.
-use Rattle.std.specs.Prelude.{◌≡◌, ℕ, ◌<◌, Bool, true, false, List, None, Option, slice_index_or}
+use Rattle.std.specs.Prelude.{◌≡◌, ℕ, ◌<◌, min, Bool, true, false, List, length, None, Option, slice_index_or}
 use Rattle.standpoint.specs.Statements.{statement}
 use Rattle.saturation.specs.declared.row.Kept.{Kept}
 use Rattle.saturation.specs.declared.row.Chain.{Chain}
@@ -30,6 +30,10 @@ no_row = record {
   kept = kept 0 0 0 0;
   mark = false;
 }
+
+-- how many rows are used: the shorter of both lengths, at most 16,777,215
+abbrev pub rows_in : {G : Type 0} → List Row → List G → ℕ
+rows_in rows grades = min (min (length rows) (length grades)) 16777215
 
 -- each turn so far settled a taken row
 abbrev pub TurnsWithin : List Row → ℕ → ℕ → Type 0

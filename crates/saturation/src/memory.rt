@@ -7,9 +7,11 @@ ghost use Rattle.saturation.specs.Tables.{view, fresh, capacity, OverSame};
 
 use crate::phase::Phase;
 use crate::row::Row;
-use crate::rows::MOST_ROWS;
 use crate::table::Table;
 use standpoint::{Refusal, Sizes};
+
+// No table uses more rows.
+const MOST_ROWS: usize = 16_777_215;
 
 impl<'a, G: Copy> Table<'a, G> {
     // A table that is not begun, over memory that may hold anything.

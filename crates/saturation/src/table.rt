@@ -1,7 +1,7 @@
 // The table over lent memory.
 ghost use Rattle.std.specs.Prelude.{◌≤◌, length};
 ghost use Rattle.saturation.specs.Phases.{is_begun};
-ghost use Rattle.saturation.specs.Rows.{TurnsWithin, Unmarked, WinnersWithin};
+ghost use Rattle.saturation.specs.Rows.{rows_in, TurnsWithin, Unmarked, WinnersWithin};
 ghost use Rattle.saturation.specs.Buckets.{Indexed};
 ghost use Rattle.saturation.specs.Sides.{Sided};
 
@@ -24,6 +24,6 @@ pub struct Table<'a, G> {
     ghost turns: { TurnsWithin rows.now settled len },
     ghost marks: { Unmarked rows.now len (is_begun phase) },
     ghost winners: { WinnersWithin rows.now len },
-    ghost index: { Indexed rows.now len },
-    ghost sides: { Sided rows.now settled },
+    ghost index: { Indexed (rows_in rows.now grades.now) rows.now len },
+    ghost sides: { Sided (rows_in rows.now grades.now) rows.now settled },
 }

@@ -1,13 +1,14 @@
-use Rattle.std.proofs.Common.{◌≡◌, ℕ, true, false, List, Option, None, is_ok, ap, sym, refl, subst}
+use Rattle.std.proofs.Common.{◌≡◌, ℕ, true, false, List, Option, None, is_ok, ap, sym, refl, subst, arith}
 use Rattle.std.proofs.lemmas.Result.{err_from_is_err_and}
 use Rattle.standpoint.specs.RuleNumbers.{number_of_rule}
 use Rattle.saturation.specs.declared.lane.Lane.{Lane}
 use Rattle.saturation.specs.Lanes.{track, lane_bucket}
-use Rattle.saturation.specs.Tables.{view}
+use Rattle.saturation.specs.Tables.{view, capacity}
 use Rattle.saturation.specs.Places.{Step}
-use Rattle.saturation.specs.Searching.{Went, OnLane}
+use Rattle.saturation.specs.Searching.{Went, OnLane, SettledPlaces}
 use Rattle.saturation.proofs.Enumerating.{Last, Using, went_last, went_lasts}
-use Rattle.saturation.proofs.Chaining.{link_falls}
+use Rattle.saturation.proofs.Chaining.{On, link_falls}
+use Rattle.saturation.proofs.Reading.{arranged_settled}
 use Rattle.saturation.proofs.Sameness.{same_then}
 use Rattle.saturation.proofs.Searches.{went_stopped}
 use Rattle.saturation.proofs.Walking.{From, walk_start, walk_next}
@@ -22,6 +23,15 @@ loop-at-init g c =
     let n = c.args.newest in
     let lane = c.last_lane-lane.result in
     ((refl, refl, refl), walk_start al v lane (Last al v rule c.args.position n c.args.i) (Using al v n) (view t) c.last_along-at.result c.last_along-at.ensures)
+
+pub attempt_along-requires : goal.attempt_along-requires
+attempt_along-requires g c =
+    let m = c.loop-at.self in
+    let lane = c.last_lane-lane.result in
+    let rule = number_of_rule c.args.inference.now.rule in
+    let same = c.loop-at.invariant.1.1.grown.settled in
+    let here = (subst (On (track (capacity (view m)) m.rows.now lane) (lane_bucket (capacity (view m)) lane) m.settled) c.in-Some.is c.loop-at.invariant.1.0).0 in
+    (here, subst (SettledPlaces m.settled) (sym c.arrange-places.ensures) (arranged_settled rule c.args.position m.settled c.args.newest c.args.i c.in-Some.j (omega (arith, c.requires.0)) (omega (arith, c.requires.1)) here))
 
 pub returns-in_err-attempt_along-clause-state : goal.returns-in_err-attempt_along-clause-state
 returns-in_err-attempt_along-clause-state g c =
@@ -45,7 +55,7 @@ pub loop-at-smaller : goal.loop-at-smaller
 loop-at-smaller g c =
     let u = c.attempt_along.new.self in
     let lane = c.last_lane-lane.result in
-    link_falls (track u.rows.now lane) (lane_bucket u.rows.now lane) c.loop-at.at c.in-Some.j c.next_along-at.result c.in-Some.is c.next_along-at.ensures
+    link_falls (track (capacity (view u)) u.rows.now lane) (lane_bucket (capacity (view u)) lane) c.loop-at.at c.in-Some.j c.next_along-at.result c.in-Some.is c.next_along-at.ensures
 
 pub loop-at-preserved : goal.loop-at-preserved
 loop-at-preserved g c =

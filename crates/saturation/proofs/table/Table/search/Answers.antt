@@ -2,7 +2,7 @@ use Rattle.std.proofs.Common.{ℕ, ◌+◌, ◌<◌, ◌≤◌, true, false, Non
 use Rattle.standpoint.specs.RuleNumbers.{number_of_rule}
 use Rattle.saturation.specs.declared.lane.Lane.{Lane}
 use Rattle.saturation.specs.Lanes.{track, lane_bucket}
-use Rattle.saturation.specs.Tables.{view}
+use Rattle.saturation.specs.Tables.{view, capacity}
 use Rattle.saturation.specs.Searching.{Went, OnLane}
 use Rattle.saturation.proofs.Chaining.{link_falls}
 use Rattle.saturation.proofs.Numbering.{nth_rule, nth_number, nth_position}
@@ -36,7 +36,7 @@ pub loop-at-smaller : goal.loop-at-smaller
 loop-at-smaller g c =
     let u = c.around-outcome.new.self in
     let lane = c.beside-lane.result in
-    link_falls (track u.rows.now lane) (lane_bucket u.rows.now lane) c.loop-at.at c.in-Some.i c.next_along-at.result c.in-Some.is c.next_along-at.ensures
+    link_falls (track (capacity (view u)) u.rows.now lane) (lane_bucket (capacity (view u)) lane) c.loop-at.at c.in-Some.i c.next_along-at.result c.in-Some.is c.next_along-at.ensures
 
 pub loop-at-preserved : goal.loop-at-preserved
 loop-at-preserved g c =

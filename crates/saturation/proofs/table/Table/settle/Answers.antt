@@ -5,7 +5,8 @@ use Rattle.saturation.specs.declared.turn.Turn.TheVariants as turn
 use Rattle.saturation.specs.Tables.{view}
 use Rattle.saturation.specs.Saturation.{GoesOn}
 use Rattle.saturation.proofs.Sameness.{same_then}
-use Rattle.saturation.proofs.Lasting.{SoFar, fits_capacity, so_far_none, so_far_more, so_far_ended, so_far_full, so_far_done}
+use Rattle.saturation.proofs.RowFacts.{fits_of}
+use Rattle.saturation.proofs.Lasting.{SoFar, so_far_none, so_far_more, so_far_ended, so_far_full, so_far_done}
 use Rattle.saturation.proofs.table.Table.settle.Goals as goal
 
 pub loop-k-init : goal.loop-k-init
@@ -18,10 +19,10 @@ returns-in-Nothing-clause-run g c =
     let v : ℕ = (sizes_of s.phase).individuals in
     let t = c.loop-k.self in
     let inv = c.loop-k.invariant in
-    let fits = fits_capacity (view t) t.rows_fit t.grades_fit t.few in
+    let fits = fits_of t in
     let u = c.go_on.new.self in
     let on = subst (λ (p : Phase). GoesOn al (sizes_of p).individuals (view t) (view u) turn.Nothing) inv.0.2 c.in-Nothing.ensures.run in
-    so_far_ended al v (view s) (view t) (view u) c.loop-k.k inv.2 inv.1 fits c.args.n c.loop-k-test.true on c.go_on.ensures.long (fits_capacity (view u) u.rows_fit u.grades_fit u.few)
+    so_far_ended al v (view s) (view t) (view u) c.loop-k.k inv.2 inv.1 fits c.args.n c.loop-k-test.true on c.go_on.ensures.long (fits_of u)
 
 pub returns-in-Overflowed-clause-run : goal.returns-in-Overflowed-clause-run
 returns-in-Overflowed-clause-run g c =
@@ -30,7 +31,7 @@ returns-in-Overflowed-clause-run g c =
     let v : ℕ = (sizes_of s.phase).individuals in
     let t = c.loop-k.self in
     let inv = c.loop-k.invariant in
-    let fits = fits_capacity (view t) t.rows_fit t.grades_fit t.few in
+    let fits = fits_of t in
     let u = c.go_on.new.self in
     let on = subst (λ (p : Phase). GoesOn al (sizes_of p).individuals (view t) (view u) turn.Overflowed) inv.0.2 c.in-Overflowed.ensures.run in
     so_far_full al v (view s) (view t) (view u) c.loop-k.k inv.2 inv.1 fits c.args.n c.loop-k-test.true on c.go_on.ensures.long
@@ -42,7 +43,7 @@ loop-k-preserved g c =
     let v : ℕ = (sizes_of s.phase).individuals in
     let t = c.loop-k.self in
     let inv = c.loop-k.invariant in
-    let fits = fits_capacity (view t) t.rows_fit t.grades_fit t.few in
+    let fits = fits_of t in
     let u = c.go_on.new.self in
     let on = subst (λ (p : Phase). GoesOn al (sizes_of p).individuals (view t) (view u) turn.Settled) inv.0.2 c.in-Settled.ensures.run in
     (same_then inv.0 c.go_on.ensures.same, c.go_on.ensures.long ∙ inv.1, so_far_more al v (view s) (view t) (view u) c.loop-k.k inv.2 inv.1 fits on)
@@ -54,7 +55,7 @@ returns-clause-run g c =
     let v : ℕ = (sizes_of s.phase).individuals in
     let t = c.loop-k.self in
     let inv = c.loop-k.invariant in
-    let fits = fits_capacity (view t) t.rows_fit t.grades_fit t.few in
+    let fits = fits_of t in
     let all : c.loop-k.k ≡ c.args.n = omega arith in
     let far = subst (λ (k : ℕ). SoFar al v (view s) (view t) k) all inv.2 in
     so_far_done al v (view s) (view t) c.args.n c.stand.result far inv.1 fits (t.settled_fit, t.turns) t.grades_fit c.stand.ensures
