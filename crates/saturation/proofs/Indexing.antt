@@ -61,6 +61,12 @@ module _ (buckets : ℕ) (rows : List Row) (n : ℕ) (x : Row) (b : ℕ) (is : b
   pub entered_old : {X : Type 0} (f : Row → X) → ((r : Row) (k : ℕ) → f (headed r k) ≡ f r) → (k : ℕ) → (k ≡ n → ⊥) → f (get_or new k no_row) ≡ f (get_or rows k no_row)
   entered_old f apart k ne = write_leaves mid b (headed (get_or mid b no_row) n) bucket_in f (apart (get_or mid b no_row) n) k ∙ ap f (write_other rows n x within_rows k ne)
 
+  -- rows that are no bucket
+  pub entered_beyond : (k : ℕ) → buckets ≤ k → get_or new k no_row ≡ get_or rows k no_row
+  entered_beyond k h =
+      let p = bucket_below buckets x.statement (omega arith) in
+      write_other mid b (headed (get_or mid b no_row) n) bucket_in k (λ e. omega (arith, is)) ∙ write_other rows n x within_rows k (λ e. omega arith)
+
   pub entered_new : {X : Type 0} (f : Row → X) → ((r : Row) (k : ℕ) → f (headed r k) ≡ f r) → f (get_or new n no_row) ≡ f x
   entered_new f apart = write_leaves mid b (headed (get_or mid b no_row) n) bucket_in f (apart (get_or mid b no_row) n) n ∙ ap f (write_here rows n x within_rows)
 

@@ -3,6 +3,7 @@ pub mod Chaining
 pub mod Indexing
 pub mod Siding
 pub mod RowFacts
+pub mod Leaving
 pub mod Offers
 pub mod Lists
 pub mod Numbering

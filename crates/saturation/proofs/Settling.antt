@@ -10,11 +10,12 @@ use Rattle.saturation.specs.declared.row.Kept.{Kept}
 use Rattle.saturation.specs.declared.side.Spots.{Spots}
 use Rattle.saturation.specs.Sides.{SpotsWithin, settled_rows}
 use Rattle.saturation.specs.Tables.{State, capacity, row_at, statement_at, turn_at, OpenAt, spots_at, settled_row}
+use Rattle.saturation.specs.Memory.{content, Leaves}
 use Rattle.saturation.specs.Places.{KeptRight}
 use Rattle.saturation.specs.Offering.{Apart, BestOf, Grown, RowsRight, Explained}
 use Rattle.saturation.specs.Searching.{Premise, Lists}
 use Rattle.saturation.proofs.Offers.{last_or, equal_or, not_both, in_same}
-use Rattle.saturation.proofs.Siding.{spots_within, kept_apart, winner_apart, settled_long, settled_leaves, settled_statement, turn_old, turn_new, place_old, place_new}
+use Rattle.saturation.proofs.Siding.{spots_within, kept_apart, winner_apart, content_apart, settled_long, settled_leaves, settled_far, settled_beyond, settled_statement, turn_old, turn_new, place_old, place_new}
 use Rattle.saturation.proofs.Rematching.{Touched}
 use Rattle.saturation.proofs.Lists.{Fit, turn_kept}
 use Rattle.saturation.proofs.Stepping.{kept_up}
@@ -60,6 +61,15 @@ module _ {G : Type 0} (s : State G) (i : ℕ) (within : i < s.len) (fits : s.len
 
   pub settled_rows_long : length (settled_row s i).rows ≡ length s.rows
   settled_rows_long = settled_long s.rows s.settled i (spots_at s i) (capacity s) few in_n in_i in_spots
+
+  pub settled_leaves_memory : Leaves s (settled_row s i)
+  settled_leaves_memory = record {
+    rows_long = settled_rows_long;
+    grades_long = refl;
+    beyond = λ k h. settled_beyond s.rows s.settled i (spots_at s i) (capacity s) few in_n in_i in_spots k h (omega arith) (omega arith);
+    free_rows = λ k h. settled_far s.rows s.settled i (spots_at s i) (capacity s) few in_n in_i in_spots content content_apart k (λ e. omega arith) (λ e. omega arith);
+    free_grades = λ k h d. refl;
+  }
 
   pub settled_lists : (l : List (Statement × G)) (g : G) → OpenAt s i → ((d : G) → get_or s.grades i d ≡ g) → Lists s l → Lists (settled_row s i) (l ++ (statement_at s i, g) ∷ [])
   settled_lists l g un grade is =

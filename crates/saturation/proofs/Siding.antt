@@ -11,6 +11,7 @@ use Rattle.saturation.specs.Rows.{no_row}
 use Rattle.saturation.specs.Chains.{last_in, heads_in, links_in}
 use Rattle.saturation.specs.Sides.{on, spots_of, SpotsWithin, node_of, chain_of, settled_at, side_bucket, Sided, spot_of, placed, turned, headed_on, head_set, turn_set, place_set, settled_rows}
 use Rattle.saturation.specs.Buckets.{bucket_of, headed}
+use Rattle.saturation.specs.Memory.{content}
 use Rattle.saturation.proofs.Chaining.{chained_same, chained_next}
 use Rattle.saturation.proofs.Indexing.{bucket_below}
 use Rattle.saturation.proofs.Writing.{write_here, write_other, write_leaves}
@@ -122,6 +123,13 @@ kept_apart Inner r j = refl
 kept_apart Ending r j = refl
 kept_apart Through r j = refl
 
+pub content_apart : Apart content
+content_apart Source r j = refl
+content_apart Target r j = refl
+content_apart Inner r j = refl
+content_apart Ending r j = refl
+content_apart Through r j = refl
+
 -- a row that is entered has its own index alone
 pub sides_apart : (side : Side) (r : Row) (j : ℕ) → chain_of side (headed r j) ≡ chain_of side r
 sides_apart Source r j = refl
@@ -229,6 +237,29 @@ module _ (rows : List Row) (n i : ℕ) (spots : Spots) (buckets : ℕ) (few : bu
 
   pub settled_there : {X : Type 0} (f : Row → X) → Apart f → ((r : Row) (p : ℕ) → f (placed r p) ≡ f r) → (j : ℕ) → (j ≡ n → ⊥) → f (get_or new j no_row) ≡ f (get_or rows j no_row)
   settled_there f apart place j ne = unplaced f apart place j ∙ ap f (write_other rows n (turned (get_or rows n no_row) i spots) at_n j ne)
+
+  -- rows in which nothing is settled, and that tell of no settled place
+  pub settled_far : {X : Type 0} (f : Row → X) → Apart f → (j : ℕ) → (j ≡ i → ⊥) → (j ≡ n → ⊥) → f (get_or new j no_row) ≡ f (get_or rows j no_row)
+  settled_far f apart j other ne =
+      unheaded f apart j
+      ∙ ap f (write_other named i (placed (get_or named i no_row) n) in_named j other)
+      ∙ ap f (write_other rows n (turned (get_or rows n no_row) i spots) at_n j ne)
+
+  -- rows that are no bucket either
+  pub settled_beyond : (j : ℕ) → buckets ≤ j → i < buckets → n < buckets → get_or new j no_row ≡ get_or rows j no_row
+  settled_beyond j h below_i below_n =
+      let a = at_spot.0 in
+      let b = at_spot.1 in
+      let c = at_spot.2 in
+      let d = at_spot.3 in
+      let e = at_spot.4 in
+      write_other four spots.through.bucket (headed_on Through (get_or four spots.through.bucket no_row) n) in_four j (λ z. omega arith)
+      ∙ write_other three spots.ending.bucket (headed_on Ending (get_or three spots.ending.bucket no_row) n) in_three j (λ z. omega arith)
+      ∙ write_other two spots.inner.bucket (headed_on Inner (get_or two spots.inner.bucket no_row) n) in_two j (λ z. omega arith)
+      ∙ write_other one spots.target.bucket (headed_on Target (get_or one spots.target.bucket no_row) n) in_one j (λ z. omega arith)
+      ∙ write_other put spots.source.bucket (headed_on Source (get_or put spots.source.bucket no_row) n) in_put j (λ z. omega arith)
+      ∙ write_other named i (placed (get_or named i no_row) n) in_named j (λ z. omega arith)
+      ∙ write_other rows n (turned (get_or rows n no_row) i spots) at_n j (λ z. omega arith)
 
   pub settled_statement : (j : ℕ) → (get_or new j no_row).statement ≡ (get_or rows j no_row).statement
   settled_statement = settled_leaves (λ (r : Row). r.statement) statement_apart (λ r p. refl) refl

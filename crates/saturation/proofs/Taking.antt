@@ -10,12 +10,13 @@ use Rattle.saturation.specs.Choosing.{Picked, Chosen}
 use Rattle.saturation.specs.Tournament.{Played, PlayedBut, ButWinners}
 use Rattle.saturation.specs.Turns.{TookTurn}
 use Rattle.saturation.proofs.Lists.{Fit, lists_grown}
+use Rattle.saturation.proofs.Leaving.{leaves_trans, leaves_capacity}
 use Rattle.saturation.proofs.Rematching.{touched_played}
 use Rattle.saturation.proofs.Winners.{but_grown, but_apart, but_best, but_right}
 use Rattle.saturation.proofs.Offers.{grown_trans}
 use Rattle.saturation.proofs.Stepping.{value_at}
 use Rattle.saturation.proofs.Opening.{next_chosen, open_room}
-use Rattle.saturation.proofs.Settling.{settled_rows_long, settled_lists, settled_best, settled_touched, settled_apart, settled_statements, settled_right, settled_explained, explained_grown}
+use Rattle.saturation.proofs.Settling.{settled_leaves_memory, settled_lists, settled_best, settled_touched, settled_apart, settled_statements, settled_right, settled_explained, explained_grown}
 
 -- row i is settled, the winners are found anew, and a search follows
 module _ {G : Type 0} (al : Algebra G) (laws : Laws al) (v : ℕ) (s m n t : State G) (i : ℕ) (b : Bool) (fit : Fit s) (fit_m : Fit m)
@@ -33,7 +34,7 @@ module _ {G : Type 0} (al : Algebra G) (laws : Laws al) (v : ℕ) (s m n t : Sta
   from_settled = subst (λ (z : State G). ButWinners z n) is but
 
   settled_grown : Grown (settled_row s i) n
-  settled_grown = but_grown from_settled
+  settled_grown = but_grown from_settled (let l = settled_leaves_memory s i within fits room in let e = leaves_capacity l in omega arith)
 
   grown : Grown (settled_row s i) t
   grown = grown_trans settled_grown went.grown
@@ -54,8 +55,7 @@ module _ {G : Type 0} (al : Algebra G) (laws : Laws al) (v : ℕ) (s m n t : Sta
       record {
         o = o;
         long = grown.settled;
-        rows_long = grown.rows_long ∙ settled_rows_long s i within fits room;
-        grades_long = grown.grades_long;
+        leaves = leaves_trans more (settled_leaves_memory s i within fits room) grown.leaves;
         next = λ l off old r. next_chosen s l old al laws (λ k h. omega arith) off fit r.best i g.0 (first r.played) g.1;
         lists = λ l old. lists_grown (settled_row s i) t (l ++ o ∷ []) settled_fit grown (listed l old);
         apart = λ h. went.apart (but_apart from_settled (settled_apart s i within fits room h));

@@ -67,9 +67,13 @@ Found s x r = RowOf s.rows s.len x r
 abbrev pub with_row : {G : Type 0} → State G → ℕ → Row → State G
 with_row s k r = record { rows = slice_set s.rows k r; grades = s.grades; len = s.len; settled = s.settled }
 
+-- a row for x, unsettled, with its step
+abbrev pub entry : Row → Statement → Kept → Row
+entry r x step = record r { statement = x; kept = step; place = None; mark = false }
+
 -- the next row for x, linked to the last of its bucket, and its own winner
 abbrev pub taken : List Row → ℕ → Statement → Kept → Option ℕ → Row
-taken rows n x step link = record (slice_index_or rows n no_row) { statement = x; kept = step; place = None; mark = false; winner = n; index = chain (slice_index_or rows n no_row).index.head link }
+taken rows n x step link = record (entry (slice_index_or rows n no_row) x step) { winner = n; index = chain (slice_index_or rows n no_row).index.head link }
 
 abbrev pub taken_row : {G : Type 0} → State G → Statement → Kept → Row
 taken_row s x step = taken s.rows s.len x step (last_in (bucket_at (capacity s) s.rows) (bucket_of (capacity s) x) s.len)

@@ -9,6 +9,7 @@ use Rattle.runs.specs.Runs.{Unsettled}
 use Rattle.saturation.specs.declared.turn.Turn.{Turn}
 use Rattle.saturation.specs.declared.turn.Turn.TheVariants.{Nothing, Settled, Overflowed}
 use Rattle.saturation.specs.Tables.{State, statement_at, OpenAt}
+use Rattle.saturation.specs.Memory.{Leaves}
 use Rattle.saturation.specs.Places.{Uses}
 use Rattle.saturation.specs.Offering.{Apart, Ranked, RowsRight, Explained}
 use Rattle.saturation.specs.Searching.{Lists, Enumerated, Stuck, NewFrom}
@@ -24,8 +25,7 @@ pub record FirstOffered {G : Type 0} (a : Algebra G) (settled offered : List (St
 pub record TookTurn {G : Type 0} (a : Algebra G) (individuals : ℕ) (s t : State G) (r : Bool) : Type 0 where
   pub o : Statement × G
   pub long : t.settled ≡ s.settled + 1
-  pub rows_long : length t.rows ≡ length s.rows
-  pub grades_long : length t.grades ≡ length s.grades
+  pub leaves : Leaves s t
   pub next : (settled offered : List (Statement × G)) → Lists s settled → Ranked a s offered → FirstOffered a settled offered o
   pub lists : (settled : List (Statement × G)) → Lists s settled → Lists t (settled ++ o ∷ [])
   pub apart : Apart s → Apart t
