@@ -13,9 +13,10 @@ use Rattle.saturation.specs.Buckets.{bucket_of}
 use Rattle.saturation.specs.Sides.{node_of, chain_of, settled_at, side_bucket, Sided}
 use Rattle.saturation.specs.Lanes.{Within, track, lane_bucket}
 use Rattle.saturation.specs.Tables.{State}
+use Rattle.saturation.specs.Offering.{Grown}
 use Rattle.saturation.specs.Searching.{Lists, Went, OnLane}
 use Rattle.saturation.proofs.Chaining.{Passed, On, none_past, on_last, past_link}
-use Rattle.saturation.proofs.Lists.{Fit, lists_grown}
+use Rattle.saturation.proofs.Lists.{Fit, statement_kept, lists_grown}
 use Rattle.saturation.proofs.Stepping.{value_at}
 use Rattle.saturation.proofs.Searches.{Family, went_none, went_then, went_as}
 
@@ -94,6 +95,31 @@ module _ {G : Type 0} (s : State G) (l : List (Statement × G)) (is : Lists s l)
       let below = on.0 in
       let v = value_at l k below in
       subst (Within lane k) (sym (is.holds k (omega arith) v.0).0) (on.1 v.0)
+
+-- what the rows tell of a lane stays while they grow
+module _ {G : Type 0} (s t : State G) (fit : Fit s) (grown : Grown s t) where
+  abbrev Lasting : Lane → Type 0
+  Lasting lane = (lane_bucket t.rows lane ≡ lane_bucket s.rows lane) × ((k : ℕ) → k < s.settled → track t.rows lane k ≡ track s.rows lane k)
+
+  side_lasts : (side : Side) (k : ℕ) → k < s.settled → side_bucket side t.rows k ≡ side_bucket side s.rows k
+  side_lasts side k h = ap (λ (n : ℕ). bucket_of n (node_of side (settled_at t.rows k))) grown.rows_long ∙ ap (λ (y : Statement). bucket_of (length s.rows) (node_of side y)) (statement_kept s t fit grown k h)
+
+  lane_lasts : (lane : Lane) → Lasting lane
+  lane_lasts Nowhere = (refl, λ k h. refl)
+  lane_lasts (Alone n) = (refl, λ k h. refl)
+  lane_lasts (Along side node) = (ap (λ (n : ℕ). bucket_of n node) grown.rows_long, side_lasts side)
+  lane_lasts (AlongIn standpoint side node) = (ap (λ (n : ℕ). bucket_of n node) grown.rows_long, side_lasts side)
+  lane_lasts (Only side x) = (ap (λ (n : ℕ). bucket_of n (node_of side x)) grown.rows_long, side_lasts side)
+  lane_lasts (Outer standpoint) = (refl, λ k h. refl)
+  lane_lasts (Inside standpoint) = (refl, λ k h. refl)
+
+  pub on_lasts : (lane : Lane) (at : Option ℕ) (k : ℕ) → at ≡ Some k → On (track s.rows lane) (lane_bucket s.rows lane) s.settled at → (k < t.settled) × (track t.rows lane k ≡ lane_bucket t.rows lane)
+  on_lasts lane at k is on =
+      let here = subst (On (track s.rows lane) (lane_bucket s.rows lane) s.settled) is on in
+      let below = here.0 in
+      let same = grown.settled in
+      let lasts = lane_lasts lane in
+      (omega arith, lasts.1 k below ∙ here.1 ∙ sym lasts.0)
 
 -- what F gives at each place of a lane that the walk has passed
 abbrev pub From : {G : Type 0} → Lane → (ℕ → Family G) → Option ℕ → Family G

@@ -1,5 +1,5 @@
 -- A table as a plain state, and what one write makes of it.
-use Rattle.std.specs.Prelude.{◌≡◌, ℕ, ◌+◌, ◌<◌, min, Bool, false, List, length, get_or, Some, None, Option, ◌≢◌, nat_lt, slice_index_or, slice_set}
+use Rattle.std.specs.Prelude.{◌≡◌, ℕ, ◌+◌, ◌<◌, min, Bool, List, length, get_or, Some, None, Option, ◌≢◌, nat_lt, slice_index_or, slice_set}
 use Rattle.standpoint.specs.declared.statement.Statement.{Statement}
 use Rattle.saturation.specs.declared.row.Kept.{Kept}
 use Rattle.saturation.specs.declared.row.Row.{Row}
@@ -69,7 +69,7 @@ with_row s k r = record { rows = slice_set s.rows k r; grades = s.grades; len = 
 
 -- the next row for x, linked to the last of its bucket, and its own winner
 abbrev pub taken : List Row → ℕ → Statement → Kept → Option ℕ → Row
-taken rows n x step link = record (slice_index_or rows n no_row) { statement = x; kept = step; place = None; mark = false; winner = n; index = chain (slice_index_or rows n no_row).index.head link }
+taken rows n x step link = record (slice_index_or rows n no_row) { statement = x; kept = step; place = None; listed = 0; winner = n; index = chain (slice_index_or rows n no_row).index.head link }
 
 abbrev pub taken_row : {G : Type 0} → State G → Statement → Kept → Row
 taken_row s x step = taken s.rows s.len x step (last_in (bucket_at s.rows) (bucket_of (length s.rows) x) s.len)

@@ -16,5 +16,5 @@ invariant_of-self-2 g c =
     let few = c.if-at-ge-MOST_ROWS.false in
     let low = t.settled_fit in
     let f = subst (λ (rows : List Row). RowFacts rows t.settled (t.len + 1) begun) (sym c.enter.ensures)
-    (entered_facts t.rows.now t.settled t.len begun (facts_of t) x c.bucket_of-bucket.result c.bucket_of-bucket.ensures.value (omega arith) low refl refl refl c.last_in.ensures refl (same_chains _ _ refl refl refl refl refl)) in
-    record { rows_fit = f.fits; grades_fit = simp length-set (omega arith); few = omega arith; settled_fit = omega arith; turns = f.turns; marks = f.marks; winners = f.winners; index = f.index; sides = f.sides }
+    (entered_facts t.rows.now t.settled t.len begun (facts_of t) x c.bucket_of-bucket.result c.bucket_of-bucket.ensures.value (omega arith) low c.requires refl refl refl refl c.last_in.ensures refl (same_chains _ _ refl refl refl refl refl)) in
+    record { rows_fit = f.fits; grades_fit = simp length-set (omega arith); few = omega arith; settled_fit = omega arith; turns = f.turns; in_place = f.in_place; unlisted = f.unlisted; winners = f.winners; index = f.index; sides = f.sides }
