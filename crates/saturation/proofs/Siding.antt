@@ -95,12 +95,12 @@ place_apart Inner r j = refl
 place_apart Ending r j = refl
 place_apart Through r j = refl
 
-pub mark_apart : Apart (λ r. r.mark)
-mark_apart Source r j = refl
-mark_apart Target r j = refl
-mark_apart Inner r j = refl
-mark_apart Ending r j = refl
-mark_apart Through r j = refl
+pub listed_apart : Apart (λ r. r.listed)
+listed_apart Source r j = refl
+listed_apart Target r j = refl
+listed_apart Inner r j = refl
+listed_apart Ending r j = refl
+listed_apart Through r j = refl
 
 pub winner_apart : Apart (λ r. r.winner)
 winner_apart Source r j = refl

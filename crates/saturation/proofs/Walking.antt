@@ -13,9 +13,11 @@ use Rattle.saturation.specs.Buckets.{bucket_of}
 use Rattle.saturation.specs.Sides.{node_of, chain_of, settled_at, side_bucket, Sided}
 use Rattle.saturation.specs.Lanes.{Within, track, lane_bucket}
 use Rattle.saturation.specs.Tables.{State, capacity}
+use Rattle.saturation.specs.Offering.{Grown}
 use Rattle.saturation.specs.Searching.{Lists, Went, OnLane}
 use Rattle.saturation.proofs.Chaining.{Passed, On, none_past, on_last, past_link}
-use Rattle.saturation.proofs.Lists.{Fit, lists_grown}
+use Rattle.saturation.proofs.Leaving.{leaves_capacity}
+use Rattle.saturation.proofs.Lists.{Fit, statement_kept, lists_grown}
 use Rattle.saturation.proofs.Stepping.{value_at}
 use Rattle.saturation.proofs.Searches.{Family, went_none, went_then, went_as}
 
@@ -94,6 +96,35 @@ module _ {G : Type 0} (s : State G) (l : List (Statement × G)) (is : Lists s l)
       let below = on.0 in
       let v = value_at l k below in
       subst (Within lane k) (sym (is.holds k (omega arith) v.0).0) (on.1 v.0)
+
+-- what the rows tell of a lane stays while they grow
+module _ {G : Type 0} (s t : State G) (fit : Fit s) (grown : Grown s t) where
+  abbrev Lasting : Lane → Type 0
+  Lasting lane = (lane_bucket (capacity t) lane ≡ lane_bucket (capacity s) lane) × ((k : ℕ) → k < s.settled → track (capacity t) t.rows lane k ≡ track (capacity s) s.rows lane k)
+
+  same_buckets : capacity t ≡ capacity s
+  same_buckets = leaves_capacity grown.leaves
+
+  side_lasts : (side : Side) (k : ℕ) → k < s.settled → side_bucket side (capacity t) t.rows k ≡ side_bucket side (capacity s) s.rows k
+  side_lasts side k h = ap (λ (n : ℕ). bucket_of n (node_of side (settled_at t.rows k))) same_buckets ∙ ap (λ (y : Statement). bucket_of (capacity s) (node_of side y)) (statement_kept s t fit grown k h)
+
+  lane_lasts : (lane : Lane) → Lasting lane
+  lane_lasts Nowhere = (refl, λ k h. refl)
+  lane_lasts (Alone n) = (refl, λ k h. refl)
+  lane_lasts (Along side node) = (ap (λ (n : ℕ). bucket_of n node) same_buckets, side_lasts side)
+  lane_lasts (AlongIn standpoint side node) = (ap (λ (n : ℕ). bucket_of n node) same_buckets, side_lasts side)
+  lane_lasts (Only side x) = (ap (λ (n : ℕ). bucket_of n (node_of side x)) same_buckets, side_lasts side)
+  lane_lasts (Outer standpoint) = (refl, λ k h. refl)
+  lane_lasts (Inside standpoint) = (refl, λ k h. refl)
+
+  pub on_lasts : (lane : Lane) (at : Option ℕ) (k : ℕ) → at ≡ Some k → On (track (capacity s) s.rows lane) (lane_bucket (capacity s) lane) s.settled at →
+      (k < t.settled) × (track (capacity t) t.rows lane k ≡ lane_bucket (capacity t) lane)
+  on_lasts lane at k is on =
+      let here = subst (On (track (capacity s) s.rows lane) (lane_bucket (capacity s) lane) s.settled) is on in
+      let below = here.0 in
+      let same = grown.settled in
+      let lasts = lane_lasts lane in
+      (omega arith, lasts.1 k below ∙ here.1 ∙ sym lasts.0)
 
 -- what F gives at each place of a lane that the walk has passed
 abbrev pub From : {G : Type 0} → Lane → (ℕ → Family G) → Option ℕ → Family G

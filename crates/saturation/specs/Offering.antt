@@ -5,6 +5,7 @@ use Rattle.standpoint.specs.Lists.{In}
 use Rattle.standpoint.specs.Algebra.{Algebra, NoWorse}
 use Rattle.standpoint.specs.Derivations.{Base}
 use Rattle.saturation.specs.declared.row.Kept.{Kept}
+use Rattle.saturation.specs.Rows.{StatementsApart}
 use Rattle.saturation.specs.Tables.{State, row_at, statement_at, turn_at, OpenAt, Present, Absent, has_room}
 use Rattle.saturation.specs.Memory.{Leaves}
 use Rattle.saturation.specs.Tournament.{Played}
@@ -12,7 +13,7 @@ use Rattle.saturation.specs.Places.{KeptRight}
 
 -- no statement stands in two taken rows
 abbrev pub Apart : {G : Type 0} → State G → Type 0
-Apart s = (i j : ℕ) → i < s.len → j < s.len → statement_at s i ≡ statement_at s j → i ≡ j
+Apart s = StatementsApart s.rows s.len
 
 pub record BestOf {G : Type 0} (a : Algebra G) (s : State G) (offered : List (Statement × G)) : Type 0 where
   pub apart : Apart s

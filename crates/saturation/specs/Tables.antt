@@ -1,5 +1,5 @@
 -- A table as a plain state, and what one write makes of it.
-use Rattle.std.specs.Prelude.{◌≡◌, ℕ, ◌+◌, ◌<◌, Bool, false, List, get_or, Some, None, Option, ◌≢◌, nat_lt, slice_index_or, slice_set}
+use Rattle.std.specs.Prelude.{◌≡◌, ℕ, ◌+◌, ◌<◌, Bool, List, get_or, Some, None, Option, ◌≢◌, nat_lt, slice_index_or, slice_set}
 use Rattle.standpoint.specs.declared.statement.Statement.{Statement}
 use Rattle.saturation.specs.declared.row.Kept.{Kept}
 use Rattle.saturation.specs.declared.row.Row.{Row}
@@ -69,7 +69,7 @@ with_row s k r = record { rows = slice_set s.rows k r; grades = s.grades; len = 
 
 -- a row for x, unsettled, with its step
 abbrev pub entry : Row → Statement → Kept → Row
-entry r x step = record r { statement = x; kept = step; place = None; mark = false }
+entry r x step = record r { statement = x; kept = step; place = None; listed = 0 }
 
 -- the next row for x, linked to the last of its bucket, and its own winner
 abbrev pub taken : List Row → ℕ → Statement → Kept → Option ℕ → Row

@@ -66,8 +66,9 @@ pub struct Row {
     pub ending: Chain,
     pub through: Chain,
     pub kept: Kept,
-    // A column of its own: stands only while steps are written out.
-    pub mark: bool,
+    // A column of its own: in the k-th row, from 0, the place of the k-th settled statement in the list of steps that is being
+    // written out, from 1; 0 where it is not on that list. A place, and not a mark alone, so that a premise is numbered by one look.
+    pub listed: u32,
 }
 
 impl Row {
@@ -84,6 +85,6 @@ impl Row {
         ending: Chain::EMPTY,
         through: Chain::EMPTY,
         kept: Kept::ACCEPTED,
-        mark: false,
+        listed: 0,
     };
 }

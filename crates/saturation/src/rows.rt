@@ -1,6 +1,6 @@
 // Single rows: looking for one, taking one, changing one.
 ghost use Rattle.std.specs.Prelude.{◌≡◌, ℕ, ◌+◌, ◌<◌, ◌≤◌, false, length, if◌then◌else◌, is_ok, MatchOption, slice_index_or};
-ghost use Rattle.saturation.specs.Tables.{view, Same, Found, has_room, pushed, taken_row, improved, statement_at, turn_at, row_at};
+ghost use Rattle.saturation.specs.Tables.{view, Absent, Same, Found, has_room, pushed, taken_row, improved, statement_at, turn_at, row_at};
 ghost use Rattle.saturation.specs.Searching.{Premise};
 ghost use Rattle.std.specs.Option.{is_some};
 
@@ -34,6 +34,7 @@ impl<'a, G: Copy> Table<'a, G> {
 
     // Takes one more row, if there is one, for a statement that no row holds yet.
     pub(crate) fn push(&mut self, statement: Statement, kept: Kept, grade: G) -> Result<(), NoRow>
+        requires { Absent (view self.old) statement }
         ensures same { Same self.old self.new }
         ensures room { is_ok result ≡ has_room (view self.old) }
         ensures state { view self.new ≡ (if is_ok result then pushed (view self.old) (taken_row (view self.old) statement kept) grade else view self.old) }
@@ -48,7 +49,7 @@ impl<'a, G: Copy> Table<'a, G> {
             statement,
             kept,
             place: None,
-            mark: false,
+            listed: 0,
             winner: at as u32,
             index: Chain {
                 head: free.index.head,

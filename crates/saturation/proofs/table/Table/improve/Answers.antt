@@ -13,5 +13,5 @@ invariant_of-self g c =
     let r = rekept (row_at (view t) i) c.args.kept in
     let fits = t.rows_fit in
     let f = facts_with t (slice_set t.rows.now i r) t.grades.now t.settled t.len begun (length-set t.rows.now i r) refl
-    (set_facts (capacity (view t)) t.rows.now t.settled t.len begun (facts_of t) i r (omega arith) refl refl refl (same_chains _ _ refl refl refl refl refl) (λ on. refl) (λ h. t.winners i h)) in
-    record { rows_fit = simp length-set t.rows_fit; grades_fit = t.grades_fit; few = t.few; settled_fit = t.settled_fit; turns = f.turns; marks = f.marks; winners = f.winners; index = f.index; sides = f.sides }
+    (set_facts (capacity (view t)) t.rows.now t.settled t.len begun (facts_of t) i r (omega arith) refl refl refl refl (same_chains _ _ refl refl refl refl refl) (λ on. refl) (λ h. t.winners i h)) in
+    record { rows_fit = simp length-set t.rows_fit; grades_fit = t.grades_fit; few = t.few; settled_fit = t.settled_fit; turns = f.turns; in_place = f.in_place; unlisted = f.unlisted; winners = f.winners; index = f.index; sides = f.sides }

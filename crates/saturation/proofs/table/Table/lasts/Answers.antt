@@ -11,7 +11,7 @@ use Rattle.saturation.proofs.Chaining.{On, link_falls}
 use Rattle.saturation.proofs.Reading.{arranged_settled}
 use Rattle.saturation.proofs.Sameness.{same_then}
 use Rattle.saturation.proofs.Searches.{went_stopped}
-use Rattle.saturation.proofs.Walking.{From, walk_start, walk_next}
+use Rattle.saturation.proofs.Walking.{From, on_lasts, walk_start, walk_next}
 use Rattle.saturation.proofs.table.Table.lasts.Goals as goal
 
 pub loop-at-init : goal.loop-at-init
@@ -50,6 +50,11 @@ returns-in_err-attempt_along-clause-state g c =
     (subst (λ (ks : List ℕ). Went al v m u (λ l o. OnLane lane l c.in-Some.j × Step al v l rule ks o) (λ l. Step al v l rule ks) (is_ok c.attempt_along.result)) c.arrange-places.ensures c.attempt_along.ensures.state) in
     subst (Went al v (view t) u _ (Using al v n)) (sym out)
     (went_stopped al v (view t) m u (From lane F c.loop-at.at) (λ l o. OnLane lane l c.in-Some.j × F c.in-Some.j l o) _ (Using al v n) true (is_ok c.attempt_along.result) (t.settled_fit, t.turns) refl off c.loop-at.invariant.1.1 here)
+
+pub next_along-at-requires : goal.next_along-at-requires
+next_along-at-requires g c =
+    let m = c.loop-at.self in
+    on_lasts (view m) (view c.attempt_along.new.self) (m.settled_fit, m.turns) c.attempt_along.ensures.state.grown c.last_lane-lane.result c.loop-at.at c.in-Some.j c.in-Some.is c.loop-at.invariant.1.0
 
 pub loop-at-smaller : goal.loop-at-smaller
 loop-at-smaller g c =

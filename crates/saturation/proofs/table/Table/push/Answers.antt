@@ -19,7 +19,7 @@ invariant_of-self-2 g c =
     let is = c.bucket-bucket.ensures.value in
     let old = facts_of t in
     let f = subst (λ (rows : List Row). RowFacts used rows t.settled (t.len + 1) begun) (sym c.enter.ensures)
-    (entered_facts used t.rows.now t.settled t.len begun old x b is room low refl refl refl c.last_in.ensures refl (same_chains _ _ refl refl refl refl refl)) in
+    (entered_facts used t.rows.now t.settled t.len begun old x b is room low c.requires refl refl refl refl c.last_in.ensures refl (same_chains _ _ refl refl refl refl refl)) in
     let long = subst (λ (rows : List Row). length rows ≡ length t.rows.now) (sym c.enter.ensures) (entered_long used t.rows.now t.len x b is room old.there) in
     let whole = facts_with t c.enter.new.rows (slice_set t.grades.now t.len c.args.grade) t.settled (t.len + 1) begun long (length-set t.grades.now t.len c.args.grade) f in
-    record { rows_fit = omega arith; grades_fit = simp length-set (omega arith); few = omega arith; settled_fit = omega arith; turns = f.turns; marks = f.marks; winners = f.winners; index = whole.index; sides = whole.sides }
+    record { rows_fit = omega arith; grades_fit = simp length-set (omega arith); few = omega arith; settled_fit = omega arith; turns = f.turns; in_place = f.in_place; unlisted = f.unlisted; winners = f.winners; index = whole.index; sides = whole.sides }

@@ -10,7 +10,7 @@ use Rattle.saturation.proofs.Offers.{grown_trans}
 use Rattle.saturation.proofs.Lists.{statement_kept}
 use Rattle.saturation.proofs.Sameness.{same_then}
 use Rattle.saturation.proofs.Searches.{Below, went_start, went_more, went_stopped}
-use Rattle.saturation.proofs.Walking.{From, walk_start, walk_next}
+use Rattle.saturation.proofs.Walking.{From, on_lasts, walk_start, walk_next}
 use Rattle.saturation.proofs.Enumerating.{AroundAt, Placed, Ruled, Using, went_partners, went_untaken, partners_taken, went_unruled, went_rule, went_all}
 use Rattle.saturation.proofs.table.Table.search.Goals as goal
 
@@ -31,6 +31,11 @@ loop-at-init g c =
     let n = c.args.newest in
     let F = AroundAt al v (number_of_rule (nth_rule c.search.rule-index)) (nth_position c.loop-position.position-index) n in
     (c.loop-position.invariant.0, (refl, refl, refl), walk_start al v c.beside-lane.result F (Using al v n) t c.last_along-at.result c.last_along-at.ensures)
+
+pub next_along-at-requires : goal.next_along-at-requires
+next_along-at-requires g c =
+    let m = c.loop-at.self in
+    on_lasts (view m) (view c.around-outcome.new.self) (m.settled_fit, m.turns) c.around-outcome.ensures.state.grown c.beside-lane.result c.loop-at.at c.in-Some.i c.in-Some.is c.loop-at.invariant.2.0
 
 pub loop-at-smaller : goal.loop-at-smaller
 loop-at-smaller g c =

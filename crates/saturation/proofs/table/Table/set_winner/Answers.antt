@@ -15,5 +15,5 @@ invariant_of-self g c =
     let fits = t.rows_fit in
     let low = c.requires.0 in
     let f = facts_with t (slice_set t.rows.now k r) t.grades.now t.settled t.len begun (length-set t.rows.now k r) refl
-    (set_facts (capacity (view t)) t.rows.now t.settled t.len begun (facts_of t) k r (omega arith) refl refl refl (same_chains _ _ refl refl refl refl refl) (λ on. refl) (λ h. c.requires.1)) in
-    record { rows_fit = simp length-set t.rows_fit; grades_fit = t.grades_fit; few = t.few; settled_fit = t.settled_fit; turns = f.turns; marks = f.marks; winners = f.winners; index = f.index; sides = f.sides }
+    (set_facts (capacity (view t)) t.rows.now t.settled t.len begun (facts_of t) k r (omega arith) refl refl refl refl (same_chains _ _ refl refl refl refl refl) (λ on. refl) (λ h. c.requires.1)) in
+    record { rows_fit = simp length-set t.rows_fit; grades_fit = t.grades_fit; few = t.few; settled_fit = t.settled_fit; turns = f.turns; in_place = f.in_place; unlisted = f.unlisted; winners = f.winners; index = f.index; sides = f.sides }

@@ -16,11 +16,11 @@ invariant_of-self g c =
     let is = c.spots-spots.ensures.value in
     let room = c.requires.1 in
     let f = subst (λ (new : List Row). RowFacts used new (t.settled + 1) t.len begun) (sym c.enter_settled.ensures)
-    (settled_facts used rows t.settled t.len begun (facts_of t) c.args.i spots c.requires.0 room is) in
+    (settled_facts used rows t.settled t.len begun (facts_of t) c.args.i spots c.requires.0 room c.requires.2 is) in
     let long = subst (λ (new : List Row). length new ≡ length rows) (sym c.enter_settled.ensures)
-    (settled_as_long used rows t.settled t.len begun (facts_of t) c.args.i spots c.requires.0 room is) in
+    (settled_as_long used rows t.settled t.len begun (facts_of t) c.args.i spots c.requires.0 room c.requires.2 is) in
     let whole = facts_with t c.enter_settled.new.rows t.grades.now (t.settled + 1) t.len begun long refl f in
-    record { rows_fit = omega arith; grades_fit = t.grades_fit; few = t.few; settled_fit = omega arith; turns = f.turns; marks = f.marks; winners = f.winners; index = whole.index; sides = whole.sides }
+    record { rows_fit = omega arith; grades_fit = t.grades_fit; few = t.few; settled_fit = omega arith; turns = f.turns; in_place = f.in_place; unlisted = f.unlisted; winners = f.winners; index = whole.index; sides = whole.sides }
 
 pub returns-clause-state : goal.returns-clause-state
 returns-clause-state g c = settled_as (view c.args.self.now) c.args.i c.enter_settled.new.rows c.spots-spots.result c.spots-spots.ensures.value c.enter_settled.ensures
