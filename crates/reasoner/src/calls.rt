@@ -87,14 +87,5 @@ pub fn settle<K: Kind>(
     ensures long { capacity (view reasoner.new) ≡ capacity (view reasoner.old) }
     ensures answer { SettledSo (K.Kind.algebra kind.now) n reasoner.old reasoner.new result }
 {
-    match reasoner.phase {
-        Phase::Idle => return Err(Refusal::NotBegun),
-        Phase::Full(_) => return Ok((0, Stand::Full)),
-        Phase::Taking(_) | Phase::Running(_) => {}
-    }
-    reasoner.seal(false);
-    let (count, stand) = reasoner.settle(kind, n);
-    let full = matches!(stand, Stand::Full);
-    reasoner.seal(full);
-    Ok((count, stand))
+    reasoner.settle(kind, n)
 }

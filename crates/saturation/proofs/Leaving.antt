@@ -1,10 +1,11 @@
 -- What is left of memory, and of what was settled, by one call after the other.
-use Rattle.std.proofs.Common.{◌≡◌, ℕ, ◌+◌, ◌<◌, ◌≤◌, min, length, get_or, sym, refl, ap, ◌∙◌, arith}
-use Rattle.saturation.specs.declared.row.Row.{Row}
-use Rattle.saturation.specs.Rows.{rows_in}
-use Rattle.saturation.specs.Tables.{State, capacity, row_at}
-use Rattle.saturation.specs.Tournament.{won_by, ButWinners}
-use Rattle.saturation.specs.Memory.{content, Leaves, ButRow}
+use Rattle.std.proofs.Common.{◌≡◌, ℕ, ◌+◌, ◌<◌, ◌≤◌, min, length, get_or, sym, refl, ap, ◌∙◌, subst, arith}
+use Rattle.std.proofs.lemmas.Option.{none-some}
+use Rattle.saturation.specs.Rows.{TurnsWithin, TurnsPlaced}
+use Rattle.saturation.specs.Tables.{State, capacity, row_at, statement_at, turn_at, OpenAt}
+use Rattle.saturation.specs.Tournament.{ButWinners}
+use Rattle.saturation.specs.Memory.{content, Leaves, KeepsSettled, SettlesRows, ButRow}
+use Rattle.saturation.specs.Offering.{Grown}
 
 module _ {G : Type 0} where
   -- memory that keeps its lengths has as many rows
@@ -66,3 +67,52 @@ module _ {G : Type 0} where
         rows = λ k ne. but_content but k ∙ b.rows k ne;
         grades = λ k ne d. ap (λ gs. get_or gs k d) but.grades ∙ b.grades k ne d;
       }
+
+  pub keeps_refl : (s : State G) → KeepsSettled s s
+  keeps_refl s = record {
+    more = omega arith;
+    turns = λ k h. refl;
+    statements = λ k h. refl;
+    places = λ k h. refl;
+    kept = λ k h. refl;
+    grades = λ k h d. refl;
+  }
+
+  pub keeps_trans : {s t u : State G} → KeepsSettled s t → KeepsSettled t u → KeepsSettled s u
+  keeps_trans {s} {t} {u} a b =
+      let m = a.more in
+      let n = b.more in
+      let up : (k : ℕ) → k < s.settled → k < t.settled = λ k h. omega arith in
+          record {
+        more = omega arith;
+        turns = λ k h. b.turns k (up k h) ∙ a.turns k h;
+        statements = λ k h. subst (λ (j : ℕ). statement_at u j ≡ statement_at t j) (a.turns k h) (b.statements k (up k h)) ∙ a.statements k h;
+        places = λ k h. subst (λ (j : ℕ). (row_at u j).place ≡ (row_at t j).place) (a.turns k h) (b.places k (up k h)) ∙ a.places k h;
+        kept = λ k h. subst (λ (j : ℕ). (row_at u j).kept ≡ (row_at t j).kept) (a.turns k h) (b.kept k (up k h)) ∙ a.kept k h;
+        grades = λ k h d. subst (λ (j : ℕ). get_or u.grades j d ≡ get_or t.grades j d) (a.turns k h) (b.grades k (up k h) d) ∙ a.grades k h d;
+      }
+
+  -- rows that grow keep what is settled
+  pub grown_keeps : {s t : State G} → s.settled ≤ s.len → TurnsWithin s.rows s.settled s.len → TurnsPlaced s.rows s.settled → Grown s t → KeepsSettled s t
+  grown_keeps {s} {t} fit within placed g =
+      let e = g.settled in
+      let closed : (k : ℕ) → k < s.settled → OpenAt s (turn_at s k) → ⊥ = λ k h un. none-some k (sym un ∙ placed k h) in
+      record {
+        more = omega arith;
+        turns = λ k h. g.turns k (omega arith);
+        statements = λ k h. g.statements (turn_at s k) (within k h);
+        places = λ k h. g.places (turn_at s k) (within k h);
+        kept = λ k h. (g.kept (turn_at s k) (within k h) (closed k h)).0;
+        grades = λ k h. (g.kept (turn_at s k) (within k h) (closed k h)).1;
+      }
+
+  pub settles_none : (s : State G) → SettlesRows s s 0
+  settles_none s = record { more = omega arith; leaves = leaves_refl s; kept_settled = keeps_refl s; counts = omega arith }
+
+  pub settles_then : {s t u : State G} (m n : ℕ) → SettlesRows s t m → SettlesRows t u n → SettlesRows s u (m + n)
+  settles_then {s} {t} {u} m n a b =
+      let low = a.more in
+      let high = b.more in
+      let e = a.counts in
+      let f = b.counts in
+      record { more = omega arith; leaves = leaves_trans high a.leaves b.leaves; kept_settled = keeps_trans a.kept_settled b.kept_settled; counts = omega arith }

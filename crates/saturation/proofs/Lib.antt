@@ -24,3 +24,4 @@ pub mod Taking
 pub mod Going
 pub mod Counting
 pub mod Lasting
+pub mod Sealing

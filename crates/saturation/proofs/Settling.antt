@@ -10,7 +10,8 @@ use Rattle.saturation.specs.declared.row.Kept.{Kept}
 use Rattle.saturation.specs.declared.side.Spots.{Spots}
 use Rattle.saturation.specs.Sides.{SpotsWithin, settled_rows}
 use Rattle.saturation.specs.Tables.{State, capacity, row_at, statement_at, turn_at, OpenAt, spots_at, settled_row}
-use Rattle.saturation.specs.Memory.{content, Leaves}
+use Rattle.saturation.specs.Rows.{TurnsPlaced}
+use Rattle.saturation.specs.Memory.{content, Leaves, KeepsSettled}
 use Rattle.saturation.specs.Places.{KeptRight}
 use Rattle.saturation.specs.Offering.{Apart, BestOf, Grown, RowsRight, Explained}
 use Rattle.saturation.specs.Searching.{Premise, Lists}
@@ -70,6 +71,21 @@ module _ {G : Type 0} (s : State G) (i : ℕ) (within : i < s.len) (fits : s.len
     free_rows = λ k h. settled_far s.rows s.settled i (spots_at s i) (capacity s) few in_n in_i in_spots content content_apart k (λ e. omega arith) (λ e. omega arith);
     free_grades = λ k h d. refl;
   }
+
+  settled_kept : (j : ℕ) → (row_at (settled_row s i) j).kept ≡ (row_at s j).kept
+  settled_kept = settled_leaves s.rows s.settled i (spots_at s i) (capacity s) few in_n in_i in_spots (λ (r : Row). r.kept) kept_apart (λ r p. refl) refl
+
+  pub settled_keeps : TurnsPlaced s.rows s.settled → OpenAt s i → KeepsSettled s (settled_row s i)
+  settled_keeps placed un =
+      let never : (k : ℕ) → k < s.settled → turn_at s k ≡ i → ⊥ = λ k h e. not_both _ k (placed k h) (ap (λ (j : ℕ). (row_at s j).place) e ∙ un) in
+      record {
+        more = omega arith;
+        turns = turn_before;
+        statements = λ k h. settled_statements (turn_at s k);
+        places = λ k h. place_before (turn_at s k) (never k h);
+        kept = λ k h. settled_kept (turn_at s k);
+        grades = λ k h d. refl;
+      }
 
   pub settled_lists : (l : List (Statement × G)) (g : G) → OpenAt s i → ((d : G) → get_or s.grades i d ≡ g) → Lists s l → Lists (settled_row s i) (l ++ (statement_at s i, g) ∷ [])
   settled_lists l g un grade is =
@@ -134,9 +150,6 @@ module _ {G : Type 0} (s : State G) (i : ℕ) (within : i < s.len) (fits : s.len
     winners = λ j h ne. settled_leaves s.rows s.settled i (spots_at s i) (capacity s) few in_n in_i in_spots (λ (r : Row). r.winner) winner_apart (λ r p. refl) refl j;
     plays = λ j h ne. record { place = place_before j ne; statement = settled_statements j; grade = λ d. refl };
   }
-
-  settled_kept : (j : ℕ) → (row_at (settled_row s i) j).kept ≡ (row_at s j).kept
-  settled_kept = settled_leaves s.rows s.settled i (spots_at s i) (capacity s) few in_n in_i in_spots (λ (r : Row). r.kept) kept_apart (λ r p. refl) refl
 
   pub settled_right : (al : Algebra G) (base : Base G) (l : List (Statement × G)) (p : Statement × G) → RowsRight al base l s → RowsRight al base (l ++ p ∷ []) (settled_row s i)
   settled_right al base l p all j h z d =

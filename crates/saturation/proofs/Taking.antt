@@ -1,26 +1,30 @@
 -- One turn, put together.
-use Rattle.std.proofs.Common.{◌≡◌, ℕ, ◌<◌, ◌≤◌, Bool, List, [], ◌∷◌, ◌++◌, Some, sym, ◌∙◌, subst, arith}
+use Rattle.std.proofs.Common.{◌≡◌, ℕ, ◌+◌, ◌<◌, ◌≤◌, Bool, List, [], ◌∷◌, ◌++◌, Some, sym, ◌∙◌, subst, arith}
 use Rattle.standpoint.specs.declared.statement.Statement.{Statement}
 use Rattle.standpoint.specs.Algebra.{Algebra, Laws}
 use Rattle.saturation.specs.Tables.{State, capacity, statement_at, OpenAt, settled_row}
+use Rattle.saturation.specs.Rows.{TurnsPlaced}
 use Rattle.saturation.specs.Places.{Uses}
 use Rattle.saturation.specs.Offering.{Ranked, Grown}
 use Rattle.saturation.specs.Searching.{Lists, Enumerated, Stuck, Went}
 use Rattle.saturation.specs.Choosing.{Picked, Chosen}
 use Rattle.saturation.specs.Tournament.{Played, PlayedBut, ButWinners}
-use Rattle.saturation.specs.Turns.{TookTurn}
+use Rattle.saturation.specs.Memory.{SettlesRows}
+use Rattle.saturation.specs.declared.turn.Turn.{Turn}
+use Rattle.saturation.specs.declared.turn.Turn.TheVariants.{Nothing, Settled, Overflowed}
+use Rattle.saturation.specs.Turns.{TookTurn, Turned, settled_by}
 use Rattle.saturation.proofs.Lists.{Fit, lists_grown}
-use Rattle.saturation.proofs.Leaving.{leaves_trans, leaves_capacity}
+use Rattle.saturation.proofs.Leaving.{leaves_trans, leaves_capacity, keeps_trans, grown_keeps, settles_none}
 use Rattle.saturation.proofs.Rematching.{touched_played}
 use Rattle.saturation.proofs.Winners.{but_grown, but_apart, but_best, but_right}
 use Rattle.saturation.proofs.Offers.{grown_trans}
 use Rattle.saturation.proofs.Stepping.{value_at}
 use Rattle.saturation.proofs.Opening.{next_chosen, open_room}
-use Rattle.saturation.proofs.Settling.{settled_leaves_memory, settled_lists, settled_best, settled_touched, settled_apart, settled_statements, settled_right, settled_explained, explained_grown}
+use Rattle.saturation.proofs.Settling.{settled_leaves_memory, settled_keeps, settled_lists, settled_best, settled_touched, settled_apart, settled_statements, settled_right, settled_explained, explained_grown}
 
 -- row i is settled, the winners are found anew, and a search follows
 module _ {G : Type 0} (al : Algebra G) (laws : Laws al) (v : ℕ) (s m n t : State G) (i : ℕ) (b : Bool) (fit : Fit s) (fit_m : Fit m)
-    (fits : s.len ≤ capacity s) (room : s.settled < s.len)
+    (placed : TurnsPlaced s.rows s.settled) (placed_m : TurnsPlaced m.rows m.settled) (fits : s.len ≤ capacity s) (room : s.settled < s.len)
     (picked : Picked s (Some i)) (first : Played al s → Chosen al s s.len (Some i)) (is : m ≡ settled_row s i)
     (but : ButWinners m n) (again : PlayedBut al m i → Played al n)
     (went : Went al v n t (λ l. Uses al v l s.settled) (λ l. Uses al v l s.settled) b) where
@@ -32,6 +36,9 @@ module _ {G : Type 0} (al : Algebra G) (laws : Laws al) (v : ℕ) (s m n t : Sta
 
   from_settled : ButWinners (settled_row s i) n
   from_settled = subst (λ (z : State G). ButWinners z n) is but
+
+  settled_placed : TurnsPlaced (settled_row s i).rows (s.settled + 1)
+  settled_placed = subst (λ (z : State G). TurnsPlaced z.rows z.settled) is placed_m
 
   settled_grown : Grown (settled_row s i) n
   settled_grown = but_grown from_settled (let l = settled_leaves_memory s i within fits room in let e = leaves_capacity l in omega arith)
@@ -55,7 +62,9 @@ module _ {G : Type 0} (al : Algebra G) (laws : Laws al) (v : ℕ) (s m n t : Sta
       record {
         o = o;
         long = grown.settled;
+        more = more;
         leaves = leaves_trans more (settled_leaves_memory s i within fits room) grown.leaves;
+        kept_settled = keeps_trans (settled_keeps s i within fits room placed picked.1) (grown_keeps settled_fit.0 settled_fit.1 settled_placed grown);
         next = λ l off old r. next_chosen s l old al laws (λ k h. omega arith) off fit r.best i g.0 (first r.played) g.1;
         lists = λ l old. lists_grown (settled_row s i) t (l ++ o ∷ []) settled_fit grown (listed l old);
         apart = λ h. went.apart (but_apart from_settled (settled_apart s i within fits room h));
@@ -77,3 +86,9 @@ module _ {G : Type 0} (al : Algebra G) (laws : Laws al) (v : ℕ) (s m n t : Sta
 -- as many turns as rows leave no row unsettled
 pub turns_out : {G : Type 0} (s : State G) → Fit s → s.len ≤ s.settled → (l : List (Statement × G)) → Lists s l → (k : ℕ) → k < s.len → OpenAt s k → ⊥
 turns_out s fit out l is k h free = let r = open_room s l is fit k h free in omega arith
+
+-- what a turn leaves of rows
+pub turned_rows : {G : Type 0} (al : Algebra G) (v : ℕ) (s t : State G) (r : Turn) → Turned al v s t r → SettlesRows s t (settled_by r)
+turned_rows al v s t Nothing turn = subst (λ z. SettlesRows s z 0) (sym turn.0) (settles_none s)
+turned_rows al v s t Settled turn = record { more = turn.more; leaves = turn.leaves; kept_settled = turn.kept_settled; counts = turn.long }
+turned_rows al v s t Overflowed turn = record { more = turn.more; leaves = turn.leaves; kept_settled = turn.kept_settled; counts = turn.long }

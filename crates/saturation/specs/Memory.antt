@@ -1,5 +1,5 @@
 -- What a call leaves of lent memory and of what was settled, whatever the kind says.
-use Rattle.std.specs.Prelude.{◌≡◌, ℕ, ◌+◌, ◌<◌, ◌≤◌, Bool, true, false, length, None, slice_index_or}
+use Rattle.std.specs.Prelude.{◌≡◌, ℕ, ◌+◌, ◌<◌, ◌≤◌, Bool, true, false, length, slice_index_or}
 use Rattle.standpoint.specs.declared.statement.Statement.{Statement}
 use Rattle.standpoint.specs.Algebra.{Algebra, NoWorse}
 use Rattle.saturation.specs.declared.row.Kept.{Kept}
@@ -27,6 +27,13 @@ pub record KeepsSettled {G : Type 0} (s t : State G) : Type 0 where
   pub places : (k : ℕ) → k < s.settled → (row_at t (turn_at s k)).place ≡ (row_at s (turn_at s k)).place
   pub kept : (k : ℕ) → k < s.settled → (row_at t (turn_at s k)).kept ≡ (row_at s (turn_at s k)).kept
   pub grades : (k : ℕ) → k < s.settled → (d : G) → slice_index_or t.grades (turn_at s k) d ≡ slice_index_or s.grades (turn_at s k) d
+
+-- so many more are settled, no taken row is given back, and of all else what a call leaves
+pub record SettlesRows {G : Type 0} (s t : State G) (count : ℕ) : Type 0 where
+  pub more : s.len ≤ t.len
+  pub leaves : Leaves s t
+  pub kept_settled : KeepsSettled s t
+  pub counts : t.settled ≡ s.settled + count
 
 -- nothing but row i and its grade differs, besides chains and queue, and nothing at all beyond the rows that are used
 pub record ButRow {G : Type 0} (s t : State G) (i : ℕ) : Type 0 where
