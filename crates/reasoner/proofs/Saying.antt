@@ -88,16 +88,24 @@ other_room r m n is other =
     absurd (⊎_elim (λ e. grind arith) (λ e. grind arith) other))
     (below_or n m)
 
+-- how a run stands all of whose known statements have rows
+module _ {G : Type 0} (a : Algebra G) (b : Base G) (t : Table G) {l : Settled G} (h : Holds a b l (view t)) where
+  pub closed_ended : t.len ≤ t.settled → Stands a b (capacity (view t)) l Ended
+  closed_ended out = (not_full a b _ (view t) h (few_rows t), all_closed a b _ (view t) h (fit_of t) out)
+
+  pub waiting_open : t.settled < t.len → Stands a b (capacity (view t)) l Open
+  waiting_open room = (not_full a b _ (view t) h (few_rows t), some_open a b _ (view t) h (fit_of t) t.grades_fit room)
+
 module _ {G : Type 0} (a : Algebra G) (b : Base G) (t : Table G) where
   -- every row is settled: the run stands ended
   pub out_ended : {l : Settled G} → ((n : Sizes) → t.phase ≡ phase.Full n → ⊥) → t.len ≤ t.settled → Holding a b t l → Stands a b (capacity (view t)) l Ended
-  out_ended free out (taking (is, range, h)) = (not_full a b _ (view t) h (few_rows t), all_closed a b _ (view t) h (fit_of t) out)
-  out_ended free out (going (is, range, h)) = (not_full a b _ (view t) h (few_rows t), all_closed a b _ (view t) h (fit_of t) out)
+  out_ended free out (taking (is, range, h)) = closed_ended a b t h out
+  out_ended free out (going (is, range, h)) = closed_ended a b t h out
   out_ended free out (standing (is, range, h)) = absurd (free b.sizes is)
 
   waiting_not_ended : {l : Settled G} → Holds a b l (view t) → t.settled < t.len → Stands a b (capacity (view t)) l Ended → ⊥
   waiting_not_ended h room ended =
-      let w = some_open a b _ (view t) h (fit_of t) t.grades_fit room in
+      let w = (waiting_open a b t h room).1 in
       let m = ended.1 w.0 w.1.0 w.1.1 in
       w.2 m.0 m.1
 

@@ -5,12 +5,16 @@ use Rattle.standpoint.specs.declared.refusal.Refusal.{Refusal}
 use Rattle.standpoint.specs.declared.refusal.Refusal.TheVariants.{NotBegun, BufferTooShort}
 use Rattle.standpoint.specs.Refusals.{number_of}
 use Rattle.standpoint.specs.declared.statement.Statement.{Statement}
+use Rattle.standpoint.specs.Algebra.{Algebra}
+use Rattle.standpoint.specs.Derivations.{Base}
 use Rattle.runs.specs.declared.Stand.{Stand}
 use Rattle.runs.specs.declared.Stand.TheVariants.{Open, Ended, Full}
+use Rattle.runs.specs.Runs.{Settled, Stands}
 use Rattle.saturation.specs.declared.table.Table.{Table}
 use Rattle.saturation.specs.Phases.{is_begun, stands_full}
-use Rattle.saturation.specs.Tables.{view}
-use Rattle.saturation.specs.Searching.{premises_in, Lists}
+use Rattle.saturation.specs.Tables.{view, capacity}
+use Rattle.saturation.specs.Searching.{premises_in}
+use Rattle.reasoner.specs.Models.{Holding}
 use Rattle.blockfile.specs.declared.fault.FaultReport.{FaultReport}
 
 -- the line of a stopped load
@@ -59,7 +63,8 @@ abbrev pub RowsLine : {G : Type 0} → (G → ℕ) → Table G → ℕ → List 
 RowsLine {G} coded t k before after r =
     (d : G) → Printed (is_begun t.phase) (line_text coded (premises_in (view t) d (range_with_len 0 t.settled)) (stand_of t) k) before after r
 
--- line k of the list that a run settled, where the rows hold it
+-- line k of what the run settled that the reasoner holds, and of how that run stands
 abbrev pub RunLine : {G : Type 0} → (G → ℕ) → Table G → ℕ → List ℕ → List ℕ → Result ℕ Refusal → Type 0
 RunLine {G} coded t k before after r =
-    (settled : List (Statement × G)) → Lists (view t) settled → Printed (is_begun t.phase) (line_text coded settled (stand_of t) k) before after r
+    (a : Algebra G) (b : Base G) (l : Settled G) → Holding a b t l →
+    (stand : Stand) × Stands a b (capacity (view t)) l stand × Written (line_text coded l stand k) before after r
