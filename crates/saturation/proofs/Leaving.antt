@@ -83,7 +83,7 @@ module _ {G : Type 0} where
       let m = a.more in
       let n = b.more in
       let up : (k : ℕ) → k < s.settled → k < t.settled = λ k h. omega arith in
-          record {
+      record {
         more = omega arith;
         turns = λ k h. b.turns k (up k h) ∙ a.turns k h;
         statements = λ k h. subst (λ (j : ℕ). statement_at u j ≡ statement_at t j) (a.turns k h) (b.statements k (up k h)) ∙ a.statements k h;

@@ -15,11 +15,7 @@ use standpoint::{Kind, Refusal};
 
 impl<'a, G: Copy> Table<'a, G> {
     // Seals the base and settles n statements, unless the run stands ended or full before: how many, and how it stands. Refuses with 1.
-    pub fn settle<K: Kind<Grade = G>>(
-        &mut self,
-        kind: &K,
-        n: u32,
-    ) -> Result<(u32, Stand), Refusal>
+    pub fn settle<K: Kind<Grade = G>>(&mut self, kind: &K, n: u32) -> Result<(u32, Stand), Refusal>
         ensures memory { OverSame self.old self.new }
         ensures answer { TableSettles (K.Kind.algebra kind.now) n self.old self.new result }
     {

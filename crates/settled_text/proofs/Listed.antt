@@ -13,8 +13,9 @@ use Rattle.saturation.specs.Phases.{is_begun}
 use Rattle.saturation.specs.Tables.{State, view, statement_at, turn_at}
 use Rattle.saturation.specs.Searching.{Premise, premises_in, Lists}
 use Rattle.reasoner.proofs.Holding.{held}
-use Rattle.settled_text.proofs.Standing.{stands_so}
-use Rattle.settled_text.specs.Text.{statement_text, stand_text, stand_of, line_text, Written, Printed, RowsLine, RunLine}
+use Rattle.saturation.specs.Saturation.{stand_of}
+use Rattle.reasoner.proofs.Standing.{stands_so}
+use Rattle.settled_text.specs.Text.{statement_text, stand_text, line_text, Written, Printed, RowsLine, RunLine}
 
 -- a phase that is not idle is that of a run
 pub begun_else : (p : Phase) → (p ≡ Idle → ⊥) → is_begun p ≡ true

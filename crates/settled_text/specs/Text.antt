@@ -11,9 +11,10 @@ use Rattle.runs.specs.declared.Stand.{Stand}
 use Rattle.runs.specs.declared.Stand.TheVariants.{Open, Ended, Full}
 use Rattle.runs.specs.Runs.{Settled, Stands}
 use Rattle.saturation.specs.declared.table.Table.{Table}
-use Rattle.saturation.specs.Phases.{is_begun, stands_full}
+use Rattle.saturation.specs.Phases.{is_begun}
 use Rattle.saturation.specs.Tables.{view, capacity}
 use Rattle.saturation.specs.Searching.{premises_in}
+use Rattle.saturation.specs.Saturation.{stand_of}
 use Rattle.reasoner.specs.Models.{Holding}
 use Rattle.blockfile.specs.declared.fault.FaultReport.{FaultReport}
 
@@ -43,10 +44,6 @@ all_lines {G} coded settled stand = map (λ (o : Statement × G). statement_text
 -- line k of it, from 0, and nothing past the last
 abbrev pub line_text : {G : Type 0} → (G → ℕ) → List (Statement × G) → Stand → ℕ → List ℕ
 line_text coded settled stand k = slice_index_or (all_lines coded settled stand) k []
-
--- how a table stands
-abbrev pub stand_of : {G : Type 0} → Table G → Stand
-stand_of t = cond (stands_full t.phase) Full (cond (nat_le t.len t.settled) Ended Open)
 
 -- bytes are written to the front of a buffer, or it is too short and stays as it was
 abbrev pub Written : List ℕ → List ℕ → List ℕ → Result ℕ Refusal → Type 0
