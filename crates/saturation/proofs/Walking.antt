@@ -13,9 +13,10 @@ use Rattle.saturation.specs.Buckets.{bucket_of}
 use Rattle.saturation.specs.Sides.{node_of, chain_of, settled_at, side_bucket, Sided}
 use Rattle.saturation.specs.Lanes.{Within, track, lane_bucket}
 use Rattle.saturation.specs.Tables.{State}
+use Rattle.saturation.specs.Offering.{Grown}
 use Rattle.saturation.specs.Searching.{Lists, Went, OnLane}
 use Rattle.saturation.proofs.Chaining.{Passed, On, none_past, on_last, past_link}
-use Rattle.saturation.proofs.Lists.{Fit, lists_grown}
+use Rattle.saturation.proofs.Lists.{Fit, statement_kept, lists_grown}
 use Rattle.saturation.proofs.Stepping.{value_at}
 use Rattle.saturation.proofs.Searches.{Family, went_none, went_then, went_as}
 
@@ -94,6 +95,31 @@ module _ {G : Type 0} (s : State G) (l : List (Statement × G)) (is : Lists s l)
       let below = on.0 in
       let v = value_at l k below in
       subst (Within lane k) (sym (is.holds k (omega arith) v.0).0) (on.1 v.0)
+
+-- a place in a lane's bucket stays in it
+pub track_kept : {G : Type 0} (s t : State G) (lane : Lane) (k : ℕ) → Fit s → Grown s t → k < s.settled → track s.rows lane k ≡ lane_bucket s.rows lane → track t.rows lane k ≡ lane_bucket t.rows lane
+track_kept s t lane k fit grown h = at lane
+  where
+    by_node : (side : Side) (node : Statement) → bucket_of (length s.rows) (node_of side (settled_at s.rows k)) ≡ bucket_of (length s.rows) node → bucket_of (length t.rows) (node_of side (settled_at t.rows k)) ≡ bucket_of (length t.rows) node
+    by_node side node here =
+        subst (λ (m : ℕ). bucket_of m (node_of side (settled_at t.rows k)) ≡ bucket_of m node) (sym grown.rows_long)
+        (subst (λ (y : Statement). bucket_of (length s.rows) (node_of side y) ≡ bucket_of (length s.rows) node) (sym (statement_kept s t fit grown k h)) here)
+
+    at : (w : Lane) → track s.rows w k ≡ lane_bucket s.rows w → track t.rows w k ≡ lane_bucket t.rows w
+    at Nowhere here = here
+    at (Alone n) here = here
+    at (Along side node) here = by_node side node here
+    at (AlongIn standpoint side node) here = by_node side node here
+    at (Only side x) here = by_node side (node_of side x) here
+    at (Outer standpoint) here = here
+    at (Inside standpoint) here = here
+
+-- so does the one where a walk stands
+pub stands_kept : {G : Type 0} (s t : State G) (lane : Lane) (at : Option ℕ) (k : ℕ) → Fit s → Grown s t → at ≡ Some k → On (track s.rows lane) (lane_bucket s.rows lane) s.settled at →
+    (k < t.settled) × (track t.rows lane k ≡ lane_bucket t.rows lane)
+stands_kept s t lane at k fit grown is_at on =
+    let here = subst (On (track s.rows lane) (lane_bucket s.rows lane) s.settled) is_at on in
+    (subst (λ (m : ℕ). k < m) (sym grown.settled) here.0, track_kept s t lane k fit grown here.0 here.1)
 
 -- what F gives at each place of a lane that the walk has passed
 abbrev pub From : {G : Type 0} → Lane → (ℕ → Family G) → Option ℕ → Family G
