@@ -1,12 +1,10 @@
 -- What is read at settling places stands in the settled list.
-use Rattle.std.proofs.Common.{ℕ, ◌<◌, ◌≤◌, ◌==◌, Bool, true, false, cond, List, [], ◌∷◌, length, get_or, refl, arith}
+use Rattle.std.proofs.Common.{ℕ, ◌<◌, ◌≤◌, List, [], ◌∷◌, length, get_or, refl, arith}
 use Rattle.std.proofs.lemmas.List.{get_or_default}
 use Rattle.standpoint.specs.declared.statement.Statement.{Statement}
 use Rattle.saturation.specs.Tables.{State, statement_at, turn_at}
 use Rattle.saturation.specs.Places.{StandAt}
-use Rattle.saturation.specs.declared.places.Position.{Position}
-use Rattle.saturation.specs.declared.places.Position.TheVariants.{First, Second, Third}
-use Rattle.saturation.specs.Searching.{Lists, SettledPlaces, premises_in, arranged}
+use Rattle.saturation.specs.Searching.{Lists, SettledPlaces, premises_in}
 use Rattle.saturation.proofs.Lists.{Fit, premise_at}
 
 module _ {G : Type 0} (s : State G) (fit : Fit s) (grades_fit : s.len ≤ length s.grades) (d : G) where
@@ -17,13 +15,3 @@ module _ {G : Type 0} (s : State G) (fit : Fit s) (grades_fit : s.len ≤ length
       let within : at < length s.grades = let h = fit.1 k below.0 in omega arith in
       let p : Statement × G = (statement_at s at, get_or s.grades at d) in
       (premise_at s l k p is below.0 (refl, λ e. get_or_default s.grades at e d within), premises_stand ks below.1 l is)
-
-settled_by_rule : (m i j k : ℕ) (b : Bool) → i < m → j < m → k < m → SettledPlaces m (cond b (i ∷ j ∷ k ∷ []) (k ∷ j ∷ i ∷ []))
-settled_by_rule m i j k true hi hj hk = (hi, (hj, (hk, tt)))
-settled_by_rule m i j k false hi hj hk = (hk, (hj, (hi, tt)))
-
--- three settled places are settled in any order
-pub arranged_settled : (rule : ℕ) (p : Position) (m n i j : ℕ) → n < m → i < m → j < m → SettledPlaces m (arranged rule p n i j)
-arranged_settled rule First m n i j hn hi hj = (hn, (hj, (hi, tt)))
-arranged_settled rule Second m n i j hn hi hj = settled_by_rule m i n j (rule == 14) hi hn hj
-arranged_settled rule Third m n i j hn hi hj = (hi, (hj, (hn, tt)))

@@ -97,34 +97,31 @@ module _ {G : Type 0} (s : State G) (l : List (Statement × G)) (is : Lists s l)
       let v = value_at l k below in
       subst (Within lane k) (sym (is.holds k (omega arith) v.0).0) (on.1 v.0)
 
--- what the rows tell of a lane stays while they grow
-module _ {G : Type 0} (s t : State G) (fit : Fit s) (grown : Grown s t) where
-  abbrev Lasting : Lane → Type 0
-  Lasting lane = (lane_bucket (capacity t) lane ≡ lane_bucket (capacity s) lane) × ((k : ℕ) → k < s.settled → track (capacity t) t.rows lane k ≡ track (capacity s) s.rows lane k)
+-- a place in a lane's bucket stays in it
+pub track_kept : {G : Type 0} (s t : State G) (lane : Lane) (k : ℕ) → Fit s → Grown s t → k < s.settled →
+    track (capacity s) s.rows lane k ≡ lane_bucket (capacity s) lane → track (capacity t) t.rows lane k ≡ lane_bucket (capacity t) lane
+track_kept s t lane k fit grown h = at lane
+  where
+    by_node : (side : Side) (node : Statement) → bucket_of (capacity s) (node_of side (settled_at s.rows k)) ≡ bucket_of (capacity s) node → bucket_of (capacity t) (node_of side (settled_at t.rows k)) ≡ bucket_of (capacity t) node
+    by_node side node here =
+        subst (λ (m : ℕ). bucket_of m (node_of side (settled_at t.rows k)) ≡ bucket_of m node) (sym (leaves_capacity grown.leaves))
+        (subst (λ (y : Statement). bucket_of (capacity s) (node_of side y) ≡ bucket_of (capacity s) node) (sym (statement_kept s t fit grown k h)) here)
 
-  same_buckets : capacity t ≡ capacity s
-  same_buckets = leaves_capacity grown.leaves
+    at : (w : Lane) → track (capacity s) s.rows w k ≡ lane_bucket (capacity s) w → track (capacity t) t.rows w k ≡ lane_bucket (capacity t) w
+    at Nowhere here = here
+    at (Alone n) here = here
+    at (Along side node) here = by_node side node here
+    at (AlongIn standpoint side node) here = by_node side node here
+    at (Only side x) here = by_node side (node_of side x) here
+    at (Outer standpoint) here = here
+    at (Inside standpoint) here = here
 
-  side_lasts : (side : Side) (k : ℕ) → k < s.settled → side_bucket side (capacity t) t.rows k ≡ side_bucket side (capacity s) s.rows k
-  side_lasts side k h = ap (λ (n : ℕ). bucket_of n (node_of side (settled_at t.rows k))) same_buckets ∙ ap (λ (y : Statement). bucket_of (capacity s) (node_of side y)) (statement_kept s t fit grown k h)
-
-  lane_lasts : (lane : Lane) → Lasting lane
-  lane_lasts Nowhere = (refl, λ k h. refl)
-  lane_lasts (Alone n) = (refl, λ k h. refl)
-  lane_lasts (Along side node) = (ap (λ (n : ℕ). bucket_of n node) same_buckets, side_lasts side)
-  lane_lasts (AlongIn standpoint side node) = (ap (λ (n : ℕ). bucket_of n node) same_buckets, side_lasts side)
-  lane_lasts (Only side x) = (ap (λ (n : ℕ). bucket_of n (node_of side x)) same_buckets, side_lasts side)
-  lane_lasts (Outer standpoint) = (refl, λ k h. refl)
-  lane_lasts (Inside standpoint) = (refl, λ k h. refl)
-
-  pub on_lasts : (lane : Lane) (at : Option ℕ) (k : ℕ) → at ≡ Some k → On (track (capacity s) s.rows lane) (lane_bucket (capacity s) lane) s.settled at →
-      (k < t.settled) × (track (capacity t) t.rows lane k ≡ lane_bucket (capacity t) lane)
-  on_lasts lane at k is on =
-      let here = subst (On (track (capacity s) s.rows lane) (lane_bucket (capacity s) lane) s.settled) is on in
-      let below = here.0 in
-      let same = grown.settled in
-      let lasts = lane_lasts lane in
-      (omega arith, lasts.1 k below ∙ here.1 ∙ sym lasts.0)
+-- so does the one where a walk stands
+pub stands_kept : {G : Type 0} (s t : State G) (lane : Lane) (at : Option ℕ) (k : ℕ) → Fit s → Grown s t → at ≡ Some k →
+    On (track (capacity s) s.rows lane) (lane_bucket (capacity s) lane) s.settled at → (k < t.settled) × (track (capacity t) t.rows lane k ≡ lane_bucket (capacity t) lane)
+stands_kept s t lane at k fit grown is_at on =
+    let here = subst (On (track (capacity s) s.rows lane) (lane_bucket (capacity s) lane) s.settled) is_at on in
+    (subst (λ (m : ℕ). k < m) (sym grown.settled) here.0, track_kept s t lane k fit grown here.0 here.1)
 
 -- what F gives at each place of a lane that the walk has passed
 abbrev pub From : {G : Type 0} → Lane → (ℕ → Family G) → Option ℕ → Family G

@@ -146,26 +146,26 @@ beside rule First n x = beside_first rule n x
 beside rule Second n x = beside_second rule x
 beside rule Third n x = beside_third rule x
 
--- the last of three premises, beside the newest x and its partner y
-abbrev pub last_lane : ℕ → Position → Statement → Statement → Lane
-last_lane rule First x y =
+-- the last of three premises, beside the newest x, settled at n, and its partner y; with fewer premises n stands for it
+abbrev pub last_lane : ℕ → Position → ℕ → Statement → Statement → Lane
+last_lane rule First n x y =
     cond (rule == 3) (Only Ending (statement 1 x.first y.second 0 0 0))
     (cond (rule == 14) (Along Inner (statement 3 0 0 x.first x.fourth 0))
     (cond (rule == 15) (Along Source (statement 5 x.first x.fourth y.third 0 0))
     (cond (rule == 17) (Only Inner (statement 3 x.first x.second x.third x.fourth y.third))
-    Nowhere)))
-last_lane rule Second x y =
+    (Alone n))))
+last_lane rule Second n x y =
     cond (rule == 3) (Only Ending (statement 1 x.first y.first 0 0 0))
     (cond (rule == 14) (Along Source (statement 8 y.first y.third 0 0 0))
     (cond (rule == 15) (Along Ending (statement 5 x.first 0 y.second x.second 0))
     (cond (rule == 17) (Only Inner (statement 3 x.first x.second x.third x.fourth y.second))
-    Nowhere)))
-last_lane rule Third x y =
+    (Alone n))))
+last_lane rule Third n x y =
     cond (rule == 3) (Only Ending (statement 1 y.first x.second 0 0 0))
     (cond (rule == 14) (Along Inner (statement 3 0 0 y.first y.fourth 0))
     (cond (rule == 15) (Along Source (statement 5 y.first y.fourth x.third 0 0))
     (cond (rule == 17) (Only Inner (statement 3 y.first y.second y.third y.fourth x.third))
-    Nowhere)))
+    (Alone n))))
 
 -- y, settled at k, is on a lane
 abbrev pub Within : Lane → ℕ → Statement → Type 0
