@@ -1,5 +1,5 @@
 -- What an explanation means over a run.
-use Rattle.std.proofs.Common.{◌≡◌, ℕ, ◌+◌, ◌<◌, ◌≤◌, List, length, take, Ok, Err, Result, sym, ap, ◌∙◌, subst, arith}
+use Rattle.std.proofs.Common.{◌≡◌, ℕ, ◌<◌, List, length, Err, Result, sym, ap, ◌∙◌, subst, arith}
 use Rattle.standpoint.specs.declared.refusal.Refusal.{Refusal}
 use Rattle.standpoint.specs.declared.statement.Statement.{Statement}
 use Rattle.standpoint.specs.declared.step.Step.{Step}
@@ -14,11 +14,11 @@ use Rattle.saturation.specs.Tables.{view}
 use Rattle.saturation.proofs.Stepping.{stands_in, value_at}
 use Rattle.reasoner.proofs.Holding.{Held, refused_misfit}
 use Rattle.reasoner.proofs.Saying.{says_settled}
-use Rattle.explanation.specs.Explaining.{NoneBelow, FirstSettled, NotFound, NotWritten, NotExplained, Explains, Explanation, Unexplained, ExplainsAs, WritesNeeded}
-use Rattle.explanation.specs.Explaining.NotFound.{not_askable, not_settled}
-use Rattle.explanation.proofs.Ranks.{rank_most}
+use Rattle.explanation.specs.Explaining.{NoneBelow, FirstSettled, NotFound, not_askable, not_settled, Writes, rests_on_later, listed, Explains, not_found, found, Explanation, ExplainsAs, does_not_fit, unsettled, explained}
+use Rattle.explanation.specs.Needed.{Unfounded, ListOf}
 use Rattle.explanation.proofs.Foundings.{explained_founded}
-use Rattle.explanation.proofs.RightSteps.{written_passes}
+use Rattle.explanation.proofs.Ordered.{in_order, each_used}
+use Rattle.explanation.proofs.RightSteps.{list_passes}
 
 module _ {G : Type 0} (a : Algebra G) (laws : Laws a) (b : Base G) (l : Settled G) (s : Table G) (h : Held a b s l) (x : Statement) where
   -- the settled statement with its grade
@@ -40,44 +40,34 @@ module _ {G : Type 0} (a : Algebra G) (laws : Laws a) (b : Base G) (l : Settled 
       let within : p.0 < s.settled = omega arith in
       none p.0 within ((h.lists.holds p.0 within (x, g)).0 ∙ ap (λ (v : Statement × G). v.0) (p.1.1 (x, g)))
 
-  unfound_means : (room : ℕ) {e : Refusal} → NotFound s x e → Unexplained b l x room e
-  unfound_means room (not_askable refused) = let unfit = refused_misfit h x refused in rw unfit.0 (Unexplained.does_not_fit unfit.1)
-  unfound_means room (not_settled asked none) = Unexplained.unsettled (none_settled none)
+  unfound_means : (old new : List (Step G)) → new ≡ old → {e : Refusal} → NotFound s x e → ExplainsAs a b l x old new (Err e)
+  unfound_means old new same (not_askable refused) = let unfit = refused_misfit h x refused in rw unfit.0 (does_not_fit unfit.1 same)
+  unfound_means old new same (not_settled asked none) = unsettled (none_settled none) same
 
-  unwritten_means : (room t : ℕ) → FirstSettled (view s) x t → {e : Refusal} → NotWritten (view s) t room e → Unexplained b l x room e
-  unwritten_means room t at (NotWritten.rests_on_later (k, n, (j, r, le))) =
+  no_later : (t : ℕ) → FirstSettled (view s) x t → Unfounded (view s) t → ⊥
+  no_later t at (k, n, (j, r, le)) =
       let o = settled_so t at in
       let lt = explained_founded a b l (view s) h.explained t (x, o.0) o.1.0 k n j r in
-      absurd (omega arith)
-  unwritten_means room t at (NotWritten.too_short m chooses founded short) =
-      let o = settled_so t at in
-      let most = rank_most m (t + 1) in
-      let lt = o.1.0 in
-      Unexplained.too_short o.0 (stands_in l t (x, o.0) o.1) (omega arith)
+      omega arith
 
-  refusal_means : (room : ℕ) {e : Refusal} → NotExplained s x room e → Unexplained b l x room e
-  refusal_means room (NotExplained.not_found why) = unfound_means room why
-  refusal_means room (NotExplained.not_written asked t at why) = unwritten_means room t at why
-
-  writing_means : (t : ℕ) (old new : List (Step G)) (count : ℕ) → FirstSettled (view s) x t → WritesNeeded (view s) t old new count → (count ≤ length l) × Explanation a b l x (take count new)
-  writing_means t old new count at w =
+  pub list_means : (t : ℕ) → FirstSettled (view s) x t → (steps : List (Step G)) → ListOf (view s) t steps → Explanation a b l x steps
+  list_means t at steps w =
       let o = settled_so t at in
-      let g = o.0 in
-      let lt = o.1.0 in
-      let most = rank_most w.chosen (t + 1) in
-      let is = w.counts in
-      let rm = w.room in
-      let said = says_settled a b s laws h x g (stands_in l t (x, g) o.1) in (
-        omega arith,
-        record {
-          grade = g;
-          settled = said.0;
-          passes = written_passes a b h.in_range l h.run (view s) h.lists h.explained t at.within w.chosen w.chooses w.founded old new (omega arith) w.written (x, g) o.1 count w.counts;
-          best = said.1;
-          excludes = said.2;
-        },
-      )
+      let said = says_settled a b s laws h x o.0 (stands_in l t (x, o.0) o.1) in
+      record {
+        grade = o.0;
+        settled = said.0;
+        passes = list_passes a b h.in_range l h.run (view s) h.lists h.explained t at.within steps w (x, o.0) o.1;
+        order = in_order (view s) t at.within steps w l h.lists;
+        used = each_used (view s) t at.within steps w;
+        best = said.1;
+        excludes = said.2;
+      }
+
+  writing_means : (t : ℕ) → FirstSettled (view s) x t → (old new : List (Step G)) {r : Result ℕ Refusal} → Writes (view s) t old new r → ExplainsAs a b l x old new r
+  writing_means t at old new (rests_on_later un same) = absurd (no_later t at un)
+  writing_means t at old new (listed steps one gives) = explained steps (list_means t at steps one.is) gives
 
   pub means : (old new : List (Step G)) (r : Result ℕ Refusal) → Explains s x old new r → ExplainsAs a b l x old new r
-  means old new (Ok count) (asked, (t, at, w)) = writing_means t old new count at w
-  means old new (Err e) (same, why) = refusal_means (length old) why
+  means old new r (not_found why same) = unfound_means old new same why
+  means old new r (found asked t at answer) = writing_means t at old new answer
