@@ -5,10 +5,11 @@ use Rattle.standpoint.specs.declared.statement.Statement.{Statement}
 use Rattle.standpoint.specs.declared.step.Step.{Step}
 use Rattle.standpoint.specs.Steps.{given}
 use Rattle.saturation.specs.declared.row.Kept.{Kept}
-use Rattle.saturation.specs.Tables.{State, row_at, statement_at}
+use Rattle.saturation.specs.Tables.{State, row_at, statement_at, turn_at}
 use Rattle.saturation.specs.Memory.{KeepsSettled}
 use Rattle.saturation.specs.Searching.{Premise}
 use Rattle.explanation.specs.Needed.{kept_at, Names, Rests, Needed, itself, below, Founded, rank, Renumbers, ListOf}
+use Rattle.explanation.specs.Explaining.{FirstSettled}
 use Rattle.explanation.proofs.Ranks.{rank_same}
 use Rattle.explanation.proofs.Listing.{founded_low}
 use Rattle.explanation.proofs.Marking.{place_within}
@@ -95,3 +96,10 @@ module _ {G : Type 0} (s u : State G) (keeps : KeepsSettled s u) where
             let n = a.chooses.sound k (omega arith) c.1 in
             subst (λ (j : ℕ). Renumbers u q k (get_or steps j d)) (alike k (omega arith)) (numbered_kept t within a.founded m q alike k (get_or steps (rank m k) d) n (a.each k h c.1 d));
       }
+
+  pub first_kept : (x : Statement) (t : ℕ) → FirstSettled s x t → FirstSettled u x t
+  first_kept x t at =
+      let more = keeps.more in
+      let lt = at.within in
+      let same : (k : ℕ) → k < s.settled → statement_at u (turn_at u k) ≡ statement_at s (turn_at s k) = λ k h. ap (statement_at u) (keeps.turns k h) ∙ keeps.statements k h in
+      record { within = omega arith; holds = same t at.within ∙ at.holds; first = λ k h e. at.first k h (sym (same k (omega arith)) ∙ e) }

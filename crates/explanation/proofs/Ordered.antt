@@ -12,7 +12,7 @@ use Rattle.saturation.specs.Searching.{Lists}
 use Rattle.saturation.proofs.Lists.{premise_at}
 use Rattle.saturation.proofs.Stepping.{value_at}
 use Rattle.explanation.specs.Needed.{kept_at, Names, Rests, Needed, itself, below, rank, Renumbers, ListOf}
-use Rattle.explanation.specs.Explaining.{InOrder, nothing, skips, takes, Uses, EachUsed}
+use Rattle.explanation.specs.Explaining.{InOrder, nothing, skips, takes, Cites, EachUsed}
 use Rattle.explanation.proofs.Ranks.{rank_taken, rank_left, rank_below, unrank}
 
 module _ {X : Type 0} where
@@ -45,10 +45,10 @@ module _ {G : Type 0} (s : State G) (t : ℕ) (within : t < s.settled) (steps : 
   needed_by (below {q} {j} n r) h = (q, n, r)
 
   -- a step as it is written names what it rests on
-  uses_numbered : (k : ℕ) (v : Step G) (p : ℕ) → Renumbers s m k v → Names (kept_at s k) p → Uses v (rank m p)
-  uses_numbered k v p r (inl e) = inl (r.first ∙ ap (rank m) e)
-  uses_numbered k v p r (inr (inl e)) = inr (inl (r.second ∙ ap (rank m) e))
-  uses_numbered k v p r (inr (inr e)) = inr (inr (r.third ∙ ap (rank m) e))
+  cites_numbered : (k : ℕ) (v : Step G) (p : ℕ) → Renumbers s m k v → Names (kept_at s k) p → Cites v (rank m p)
+  cites_numbered k v p r (inl e) = inl (r.first ∙ ap (rank m) e)
+  cites_numbered k v p r (inr (inl e)) = inr (inl (r.second ∙ ap (rank m) e))
+  cites_numbered k v p r (inr (inr e)) = inr (inr (r.third ∙ ap (rank m) e))
 
   pub each_used : EachUsed steps
   each_used i h =
@@ -68,7 +68,7 @@ module _ {G : Type 0} (s : State G) (t : ℕ) (within : t < s.settled) (steps : 
       let before = rank_below m k q early at.2 in
       let after = rank_below m q (t + 1) (omega arith) c.1 in
       let place : rank m (k + 1) ≡ i + 1 = omega arith in
-      (rank m q, omega arith, omega arith, λ d. subst (Uses (get_or steps (rank m q) d)) place (uses_numbered q (get_or steps (rank m q) d) (k + 1) (w.each q c.0 c.1 d) by.2))
+      (rank m q, omega arith, omega arith, λ d. subst (Cites (get_or steps (rank m q) d)) place (cites_numbered q (get_or steps (rank m q) d) (k + 1) (w.each q c.0 c.1 d) by.2))
 
   module _ (l : Settled G) (lists : Lists s l) where
     -- the step that is written for a needed one

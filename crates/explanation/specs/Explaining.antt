@@ -63,26 +63,25 @@ pub data InOrder {X : Type 0} : List X → List X → Type 0 where
   skips : {xs ys : List X} (y : X) → InOrder xs ys → InOrder xs (y ∷ ys)
   takes : {xs ys : List X} (y : X) → InOrder xs ys → InOrder (y ∷ xs) (y ∷ ys)
 
--- a step names a place, counted from 1
-abbrev pub Uses : {G : Type 0} → Step G → ℕ → Type 0
-Uses v place = (v.first ≡ place) ⊎ ((v.second ≡ place) ⊎ (v.third ≡ place))
+-- a step cites a place, counted from 1, as a premise
+abbrev pub Cites : {G : Type 0} → Step G → ℕ → Type 0
+Cites v place = (v.first ≡ place) ⊎ ((v.second ≡ place) ⊎ (v.third ≡ place))
 
 -- each step but the last is a premise of a later one
 abbrev pub EachUsed : {G : Type 0} → List (Step G) → Type 0
-EachUsed {G} steps = (i : ℕ) → i + 1 < length steps → (j : ℕ) × (i < j) × (j < length steps) × ((d : Step G) → Uses (slice_index_or steps j d) (i + 1))
+EachUsed {G} steps = (i : ℕ) → i + 1 < length steps → (j : ℕ) × (i < j) × (j < length steps) × ((d : Step G) → Cites (slice_index_or steps j d) (i + 1))
 
 -- the list passes the check and ends in x at its settled grade, which is the best; it gives settled statements alone, each once, in settling order
-pub record Explanation {G : Type 0} (a : Algebra G) (b : Base G) (l : Settled G) (x : Statement) (steps : List (Step G)) : Type 0 where
-  pub grade : G
-  pub settled : In l (x, grade)
-  pub passes : Passes a b steps x grade
+pub record Explanation {G : Type 0} (a : Algebra G) (b : Base G) (l : Settled G) (x : Statement) (g : G) (steps : List (Step G)) : Type 0 where
+  pub settled : In l (x, g)
+  pub passes : Passes a b steps x g
   pub order : InOrder (map given steps) l
   pub used : EachUsed steps
-  pub best : BestGrade a b x grade
+  pub best : BestGrade a b x g
   pub excludes : Excludes b x
 
 -- what the answer means over a run that has settled l: x does not fit, or is not settled, or has an explanation, which goes by its length alone
 pub data ExplainsAs {G : Type 0} (a : Algebra G) (b : Base G) (l : Settled G) (x : Statement) (old new : List (Step G)) : Result ℕ Refusal → Type 0 where
   does_not_fit : (Fits b.sizes x → ⊥) → new ≡ old → ExplainsAs a b l x old new (Err DoesNotFit)
   unsettled : runs.Unsettled l x → new ≡ old → ExplainsAs a b l x old new (Err Unsettled)
-  explained : {r : Result ℕ Refusal} (steps : List (Step G)) → Explanation a b l x steps → Gives steps old new r → ExplainsAs a b l x old new r
+  explained : {r : Result ℕ Refusal} (g : G) (steps : List (Step G)) → Explanation a b l x g steps → Gives steps old new r → ExplainsAs a b l x old new r
