@@ -54,6 +54,13 @@ module _ (m : ℕ → Bool) where
       here true e ge = let f : one_if (m b) ≡ one_if true = ap one_if e in (b, omega arith, e, omega arith)
       here false e ge = let f : one_if (m b) ≡ one_if false = ap one_if e in absurd (omega arith)
 
+-- choices that agree below a place have as many there
+pub rank_same : (m q : ℕ → Bool) (n : ℕ) → ((k : ℕ) → k < n → m k ≡ q k) → rank m n ≡ rank q n
+rank_same m q zero agree = refl
+rank_same m q (suc n) agree =
+    let rest = rank_same m q n (λ k h. agree k (omega arith)) in
+    ap (λ (i : ℕ). i + cond (m n) 1 0) rest ∙ ap (λ (b : Bool). rank q n + cond b 1 0) (agree n (omega arith))
+
 -- how many of the first rows are marked
 pub count_ranks : (rows : List Row) (k : ℕ) → k ≤ length rows → length (filter (λ (r : Row). r.mark) (take k rows)) ≡ rank (λ j. (get_or rows j no_row).mark) k
 count_ranks rows zero h = refl

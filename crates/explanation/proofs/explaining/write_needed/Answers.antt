@@ -16,7 +16,7 @@ returns-then-count_marked-buffer-clause-answer g c =
     let p = c.in_ok-mark_needed.ensures.state in
     let e = c.count_marked.ensures in
     let lt = c.if-count_marked-buffer.true in
-    (search rules, refuses_short (view c.args.reasoner.now) (view c.mark_needed.new.reasoner) c.args.t p _ (omega arith))
+    refuses_short c.args.reasoner.now c.args.t c.requires.0 (view c.mark_needed.new.reasoner) p _ _ (search rules) (omega arith)
 
 pub write_marked-requires : goal.write_marked-requires
 write_marked-requires g c =
@@ -33,4 +33,4 @@ returns-clause-answer g c =
     let e = c.count_marked.ensures in
     let f = c.write_marked.ensures.count in
     let le = c.if-count_marked-buffer.false in
-    writes_all (view c.args.reasoner.now) (view c.mark_needed.new.reasoner) c.args.t p _ _ c.write_marked.result f (omega arith) c.write_marked.ensures.steps
+    writes_all c.args.reasoner.now c.args.t c.requires.0 (view c.mark_needed.new.reasoner) p _ _ c.write_marked.result f (omega arith) c.write_marked.ensures.steps
