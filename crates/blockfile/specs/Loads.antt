@@ -1,39 +1,19 @@
 -- What a load makes of a reasoner, and where it stops.
-use Rattle.std.specs.Prelude.{◌≡◌, ℕ, ◌+◌, ◌<◌, List, [], ◌∷◌, ◌++◌, Some, None, Ok, Err, Option, Result}
-use Rattle.standpoint.specs.declared.sizes.Sizes.{Sizes}
+use Rattle.std.specs.Prelude.{◌≡◌, ℕ, ◌+◌, ◌<◌, List, [], ◌∷◌, Some, None, Ok, Err, Option, Result}
+use Rattle.standpoint.specs.declared.refusal.Refusal.{Refusal}
 use Rattle.standpoint.specs.declared.statement.Statement.{Statement}
 use Rattle.standpoint.specs.Algebra.{Algebra}
-use Rattle.standpoint.specs.Derivations.{Base}
 use Rattle.saturation.specs.declared.table.Table.{Table}
-use Rattle.reasoner.specs.Models.{based, empty_base, accepting, StandsFor}
-use Rattle.reasoner.specs.Calls.{Unchanged, Begun, AddRefused}
+use Rattle.reasoner.specs.Models.{based, StandsFor}
+use Rattle.reasoner.specs.Calls.{Unchanged, Begun, Adds}
 use Rattle.blockfile.specs.declared.fault.RecordFault.{RecordFault}
 use Rattle.blockfile.specs.declared.fault.RecordFault.TheVariants.{Code, Add}
 use Rattle.blockfile.specs.declared.fault.BlockFault.{BlockFault}
 use Rattle.blockfile.specs.declared.fault.BlockFault.TheVariants.{Sum, Layout, Begin, InRecord}
 use Rattle.blockfile.specs.declared.fault.LoadFault.{LoadFault}
 use Rattle.blockfile.specs.declared.fault.LoadFault.TheVariants.{Length, InBlock}
-use Rattle.blockfile.specs.Layout.{count_in, code_of, statement_in, sizes_in}
+use Rattle.blockfile.specs.Layout.{count_in, code_of, statement_in, sizes_in, Whole}
 use Rattle.blockfile.specs.Faults.{BlocksChecked}
-
--- statements with their grades, accepted in order
-abbrev pub accepting_on : {G : Type 0} → Base G → List (Statement × G) → Base G
-accepting_on base [] = base
-accepting_on base (r ∷ rs) = accepting_on (accepting base r.0 r.1) rs
-
-abbrev pub accepting_all : {G : Type 0} → Sizes → List (Statement × G) → Base G
-accepting_all n rs = accepting_on (empty_base n) rs
-
--- the records before record p of block b, in order: each code is a grade
-pub data Reads {G : Type 0} (decoded : ℕ → Option G) (file : List ℕ) : ℕ → ℕ → List (Statement × G) → Type 0 where
-  reads_none : Reads decoded file 1 0 []
-  reads_record : {b p : ℕ} {rs : List (Statement × G)} {g : G} → Reads decoded file b p rs → p < count_in file b → decoded (code_of file b p) ≡ Some g →
-      Reads decoded file b (p + 1) (rs ++ (statement_in file b p, g) ∷ [])
-  reads_block : {b : ℕ} {rs : List (Statement × G)} → Reads decoded file b (count_in file b) rs → Reads decoded file (b + 1) 0 rs
-
--- the reasoner has accepted the records before record p of block b, and nothing else
-abbrev pub AcceptsBefore : {G : Type 0} → Algebra G → (ℕ → Option G) → List ℕ → ℕ → ℕ → Table G → Type 0
-AcceptsBefore {G} a decoded file b p t = (rs : List (Statement × G)) × Reads decoded file b p rs × StandsFor a (based (accepting_all (sizes_in file) rs)) t
 
 -- where a record stops a load
 abbrev pub block_at : RecordFault → ℕ
@@ -44,46 +24,67 @@ abbrev pub place_at : RecordFault → ℕ
 place_at (Code block place) = place
 place_at (Add block place why) = place
 
--- why it does: its code is no grade, or the reasoner does not accept it
-abbrev pub RecordRefused : {G : Type 0} → (ℕ → Option G) → List ℕ → Table G → RecordFault → Type 0
-RecordRefused decoded file t (Code block place) = decoded (code_of file block place) ≡ None
-RecordRefused {G} decoded file t (Add block place why) = (g : G) × (decoded (code_of file block place) ≡ Some g) × AddRefused t (statement_in file block place) why
+-- each of these, the last one first, was accepted by one add, which led from s to this reasoner
+pub data Added {G : Type 0} (a : Algebra G) (s : Table G) : List (Statement × G) → Table G → Type 0 where
+  none : Added a s [] s
+  one_more : {rs : List (Statement × G)} {t u : Table G} {x : Statement} {g : G} → Added a s rs t → Adds a x g t u (Ok tt) → Added a s ((x, g) ∷ rs) u
 
--- the record is there, all before it are accepted, and it is refused
-pub record StoppedAt {G : Type 0} (a : Algebra G) (decoded : ℕ → Option G) (file : List ℕ) (t : Table G) (f : RecordFault) : Type 0 where
-  pub there : place_at f < count_in file (block_at f)
-  pub before : AcceptsBefore a decoded file (block_at f) (place_at f) t
-  pub refused : RecordRefused decoded file t f
+module _ {G : Type 0} (decoded : ℕ → Option G) (file : List ℕ) where
+  -- the records from block first on and before record p of block b, the last one first, each with the grade of its code
+  pub data Reads (first : ℕ) : ℕ → ℕ → List (Statement × G) → Type 0 where
+    reads_none : Reads first first 0 []
+    reads_record : {b p : ℕ} {rs : List (Statement × G)} {g : G} → Reads first b p rs → p < count_in file b → decoded (code_of file b p) ≡ Some g →
+        Reads first b (p + 1) ((statement_in file b p, g) ∷ rs)
+    reads_block : {b : ℕ} {rs : List (Statement × G)} → Reads first b (count_in file b) rs → Reads first (b + 1) 0 rs
 
--- one record: accepted with its grade, or refused
-abbrev pub RecordLoaded : {G : Type 0} → Algebra G → (ℕ → Option G) → List ℕ → ℕ → ℕ → Table G → Table G → Result (Unit {0}) RecordFault → Type 0
-RecordLoaded {G} a decoded file b p s t (Ok _) =
-    (g : G) × (decoded (code_of file b p) ≡ Some g) × ((base : Base G) → StandsFor a (based base) s → StandsFor a (based (accepting base (statement_in file b p) g)) t)
-RecordLoaded a decoded file b p s t (Err f) = Unchanged s t × (block_at f ≡ b) × (place_at f ≡ p) × RecordRefused decoded file t f
+  module _ (a : Algebra G) where
+    -- these records were added in order, which led from s to t
+    abbrev pub AddedBefore : ℕ → ℕ → ℕ → Table G → Table G → Type 0
+    AddedBefore first b p s t = (rs : List (Statement × G)) × Reads first b p rs × Added a s rs t
 
--- one block: all of its records are accepted, or one stops the load
-abbrev pub BlockLoaded : {G : Type 0} → Algebra G → (ℕ → Option G) → List ℕ → ℕ → Table G → Result (Unit {0}) BlockFault → Type 0
-BlockLoaded a decoded file b t (Ok _) = AcceptsBefore a decoded file (b + 1) 0 t
-BlockLoaded a decoded file b t (Err (InRecord f)) = (block_at f ≡ b) × StoppedAt a decoded file t f
-BlockLoaded a decoded file b t (Err (Sum block)) = ⊥
-BlockLoaded a decoded file b t (Err (Layout block)) = ⊥
-BlockLoaded a decoded file b t (Err (Begin why)) = ⊥
+    -- what add makes of record p of block b
+    pub record RecordAdded (b p : ℕ) (s t : Table G) (r : Result (Unit {0}) Refusal) : Type 0 where
+      pub grade : G
+      pub read : decoded (code_of file b p) ≡ Some grade
+      pub adds : Adds a (statement_in file b p) grade s t r
 
--- the sizes of block 0: begun with them, or refused
-abbrev pub Sized : {G : Type 0} → Algebra G → List ℕ → Table G → Table G → Result (Unit {0}) BlockFault → Type 0
-Sized a file s t (Ok _) = StandsFor a (based (empty_base (sizes_in file))) t
-Sized a file s t (Err (Begin why)) = Begun a (sizes_in file) s t (Err why)
-Sized a file s t (Err (InRecord f)) = ⊥
-Sized a file s t (Err (Sum block)) = ⊥
-Sized a file s t (Err (Layout block)) = ⊥
+    -- a record that stops a load: its code is no grade, or add refuses it
+    abbrev pub RecordRefused : Table G → Table G → RecordFault → Type 0
+    RecordRefused s t (Code b p) = (decoded (code_of file b p) ≡ None) × Unchanged s t
+    RecordRefused s t (Add b p why) = RecordAdded b p s t (Err why)
 
--- the whole file: first every block is checked, then the reasoner begins, then the records are accepted in order
-abbrev pub Loaded : {G : Type 0} → Algebra G → ℕ → (ℕ → Option G) → List ℕ → Table G → Table G → Result (Unit {0}) LoadFault → Type 0
-Loaded a letter decoded file s t (Ok _) = (n : ℕ) × BlocksChecked letter file (Ok n) × AcceptsBefore a decoded file n 0 t
-Loaded a letter decoded file s t (Err Length) = Unchanged s t × BlocksChecked letter file (Err Length)
-Loaded a letter decoded file s t (Err (InBlock (Sum block))) = Unchanged s t × BlocksChecked letter file (Err (InBlock (Sum block)))
-Loaded a letter decoded file s t (Err (InBlock (Layout block))) = Unchanged s t × BlocksChecked letter file (Err (InBlock (Layout block)))
-Loaded a letter decoded file s t (Err (InBlock (Begin why))) =
-    ((n : ℕ) × BlocksChecked letter file (Ok n)) × Begun a (sizes_in file) s t (Err why)
-Loaded a letter decoded file s t (Err (InBlock (InRecord f))) =
-    (n : ℕ) × BlocksChecked letter file (Ok n) × (block_at f < n) × StoppedAt a decoded file t f
+    -- one record: added, or refused
+    abbrev pub RecordLoaded : ℕ → ℕ → Table G → Table G → Result (Unit {0}) RecordFault → Type 0
+    RecordLoaded b p s t (Ok _) = RecordAdded b p s t (Ok tt)
+    RecordLoaded b p s t (Err f) = (block_at f ≡ b) × (place_at f ≡ p) × RecordRefused s t f
+
+    -- all records before this one were added, and it is refused
+    pub record StoppedAt (first : ℕ) (s t : Table G) (f : RecordFault) : Type 0 where
+      pub there : place_at f < count_in file (block_at f)
+      pub reached : Table G
+      pub before : AddedBefore first (block_at f) (place_at f) s reached
+      pub refused : RecordRefused reached t f
+
+    -- one block: all of its records were added in order, or one of them stops the load
+    abbrev pub BlockLoaded : ℕ → Table G → Table G → Result (Unit {0}) BlockFault → Type 0
+    BlockLoaded b s t (Ok _) = AddedBefore b (b + 1) 0 s t
+    BlockLoaded b s t (Err fault) = (f : RecordFault) × (fault ≡ InRecord f) × (block_at f ≡ b) × StoppedAt b s t f
+
+    -- the whole file: every block is checked, then the reasoner begins with the sizes of block 0, then the records of the others are added in order
+    abbrev pub Loaded : ℕ → Table G → Table G → Result (Unit {0}) LoadFault → Type 0
+    Loaded letter s t (Ok _) =
+        (n : ℕ) × BlocksChecked letter file (Ok n) × ((u : Table G) × Begun a (sizes_in file) s u (Ok tt) × AddedBefore 1 n 0 u t)
+    Loaded letter s t (Err Length) = Unchanged s t × BlocksChecked letter file (Err Length)
+    Loaded letter s t (Err (InBlock (Sum block))) = Unchanged s t × BlocksChecked letter file (Err (InBlock (Sum block)))
+    Loaded letter s t (Err (InBlock (Layout block))) = Unchanged s t × BlocksChecked letter file (Err (InBlock (Layout block)))
+    Loaded letter s t (Err (InBlock (Begin why))) = ((n : ℕ) × BlocksChecked letter file (Ok n)) × Begun a (sizes_in file) s t (Err why)
+    Loaded letter s t (Err (InBlock (InRecord f))) =
+        (n : ℕ) × BlocksChecked letter file (Ok n) × (block_at f < n) × ((u : Table G) × Begun a (sizes_in file) s u (Ok tt) × StoppedAt 1 u t f)
+
+    -- the reasoner stands for the sizes of block 0 and the records before record p of block b, and nothing else
+    abbrev pub AcceptsBefore : ℕ → ℕ → Table G → Type 0
+    AcceptsBefore b p t = (rs : List (Statement × G)) × Reads 1 b p rs × StandsFor a (based (record { sizes = sizes_in file; accepted = rs })) t
+
+    -- so it does for all records of the file
+    abbrev pub AcceptsAll : Table G → Type 0
+    AcceptsAll t = (n : ℕ) × Whole file n × AcceptsBefore n 0 t

@@ -1,8 +1,11 @@
 // The load of a file into a reasoner.
-ghost use Rattle.std.specs.Prelude.{◌+◌, ◌*◌, ◌≤◌, length};
-ghost use Rattle.saturation.specs.Tables.{OverSame};
+ghost use Rattle.std.specs.Prelude.{◌≡◌, ◌≤◌, OnOk};
+ghost use Rattle.saturation.specs.Tables.{view, capacity, OverSame};
+ghost use Rattle.blockfile.specs.declared.fault.RecordFault.{RecordFault};
+ghost use Rattle.blockfile.specs.declared.fault.BlockFault.TheVariants.{InRecord};
+ghost use Rattle.blockfile.specs.declared.fault.LoadFault.TheVariants.{InBlock};
 ghost use Rattle.blockfile.specs.Layout.{count_in};
-ghost use Rattle.blockfile.specs.Loads.{AcceptsBefore, RecordLoaded, BlockLoaded, Sized, Loaded};
+ghost use Rattle.blockfile.specs.Loads.{RecordLoaded, BlockLoaded, Loaded, AcceptsBefore, AcceptsAll, block_at, place_at};
 
 use crate::blocks::{Block, Record};
 use crate::check::check_blocks;
@@ -11,17 +14,24 @@ use crate::stored::StoredKind;
 use reasoner::{add, begin};
 use saturation::Table;
 
-// Checks every block, begins with the sizes of block 0 and accepts the records in order, up to the first fault.
+// Checks every block, begins with the sizes of block 0 and adds the records in order, up to the first fault.
 pub fn load<K: StoredKind>(
     reasoner: &mut Table<'_, K::Grade>,
     kind: &K,
     file: &[u8],
 ) -> Result<(), LoadFault>
     ensures memory { OverSame reasoner.old reasoner.new }
-    ensures answer { Loaded (K.Kind.algebra kind.now) K.StoredKind.KIND_BYTE K.StoredKind.decoded file.now reasoner.old reasoner.new result }
+    ensures long { capacity (view reasoner.new) ≡ capacity (view reasoner.old) }
+    ensures answer { Loaded K.StoredKind.decoded file.now (K.Kind.algebra kind.now) K.StoredKind.KIND_BYTE reasoner.old reasoner.new result }
+
+    // What follows in the words of a run.
+    ensures all { OnOk result (AcceptsAll K.StoredKind.decoded file.now (K.Kind.algebra kind.now) reasoner.new) }
+    ensures stopped { (f : RecordFault) → result ≡ Err (InBlock (InRecord f)) →
+        AcceptsBefore K.StoredKind.decoded file.now (K.Kind.algebra kind.now) (block_at f) (place_at f) reasoner.new }
 {
     let blocks = check_blocks::<K>(file)?;
-    begin_sized(reasoner, kind, file)?;
+    let sizes = Block { file, number: 0 }.sizes();
+    begin(reasoner, kind, sizes).map_err(BlockFault::Begin)?;
     // By number, which the fault names.
     for number in 1..blocks {
         load_block(reasoner, kind, Block { file, number })?;
@@ -29,30 +39,16 @@ pub fn load<K: StoredKind>(
     Ok(())
 }
 
-// Begins with the sizes of block 0.
-fn begin_sized<K: StoredKind>(
-    reasoner: &mut Table<'_, K::Grade>,
-    kind: &K,
-    file: &[u8],
-) -> Result<(), BlockFault>
-    requires { 512 ≤ length file.now }
-    ensures memory { OverSame reasoner.old reasoner.new }
-    ensures answer { Sized (K.Kind.algebra kind.now) file.now reasoner.old reasoner.new result }
-{
-    let sizes = Block { file, number: 0 }.sizes();
-    begin(reasoner, kind, sizes).map_err(BlockFault::Begin)
-}
-
-// Accepts the records of a block in order.
+// Adds the records of a block in order.
 fn load_block<K: StoredKind>(
     reasoner: &mut Table<'_, K::Grade>,
     kind: &K,
     block: Block<'_>,
 ) -> Result<(), BlockFault>
-    requires few { count_in block.file.now block.number ≤ 41 }
-    requires before { AcceptsBefore (K.Kind.algebra kind.now) K.StoredKind.decoded block.file.now block.number 0 reasoner.old }
+    requires { count_in block.file.now block.number ≤ 41 }
     ensures memory { OverSame reasoner.old reasoner.new }
-    ensures answer { BlockLoaded (K.Kind.algebra kind.now) K.StoredKind.decoded block.entry.file.now block.entry.number reasoner.new result }
+    ensures long { capacity (view reasoner.new) ≡ capacity (view reasoner.old) }
+    ensures answer { BlockLoaded K.StoredKind.decoded block.entry.file.now (K.Kind.algebra kind.now) block.entry.number reasoner.old reasoner.new result }
 {
     let count = u16::from(block.count());
     // By place, which the fault names.
@@ -62,14 +58,16 @@ fn load_block<K: StoredKind>(
     Ok(())
 }
 
-// Accepts one record: its code first.
+// Adds one record: its code is read first.
 fn load_record<K: StoredKind>(
     reasoner: &mut Table<'_, K::Grade>,
     kind: &K,
     at: Record<'_>,
 ) -> Result<(), RecordFault>
     ensures memory { OverSame reasoner.old reasoner.new }
-    ensures answer { RecordLoaded (K.Kind.algebra kind.now) K.StoredKind.decoded at.entry.block.file.now at.entry.block.number at.entry.place reasoner.old reasoner.new result }
+    ensures long { capacity (view reasoner.new) ≡ capacity (view reasoner.old) }
+    ensures answer { let block = at.entry.block in
+        RecordLoaded K.StoredKind.decoded block.file.now (K.Kind.algebra kind.now) block.number at.entry.place reasoner.old reasoner.new result }
 {
     let block = at.block.number;
     let place = at.place;
