@@ -10,7 +10,7 @@ use Rattle.saturation.proofs.Offers.{last_or}
 use Rattle.replay.specs.declared.call.Call.{Call}
 use Rattle.replay.specs.Pasts.{Outcome, call_at, outcome_at, before, written}
 use Rattle.replay.specs.Performing.{Performs, Performed, none, one_more}
-use Rattle.replay.proofs.Kept.{keeps_all, keeps_then}
+use Rattle.saturation.proofs.Leaving.{keeps_refl, keeps_trans}
 use Rattle.replay.proofs.Histories.{Tied, not_yet, goes_on}
 
 take_fewer : {X : Type 0} (m n : ℕ) (xs ys : List X) → m ≤ n → take n xs ≡ take n ys → take m xs ≡ take m ys
@@ -116,7 +116,7 @@ module _ {G : Type 0} (a : Algebra G) (calls : List (Call G)) (os : List (Outcom
     -- what was settled before a place is kept until the next begin
     kept_since : {n : ℕ} {t : Table G} {q : List (Step G)} (all : Performed a calls os first steps n t q) (i : ℕ) → i ≤ n → (before calls os n).begins ≡ (before calls os i).begins →
         KeepsSettled (view (state_at all i)) (view t)
-    kept_since none i h same = keeps_all (view first)
+    kept_since none i h same = keeps_refl (view first)
     kept_since (one_more {i = n} {t} {u} {p} {q} so_far rows long kept here) i h same =
         let on = goes_on a (tied_at so_far) (call_at calls n) (outcome_at os n) (drop (written os n) p) (drop (written os n) q) here in
         let more = on.begins in
@@ -125,8 +125,8 @@ module _ {G : Type 0} (a : Algebra G) (calls : List (Call G)) (os : List (Outcom
         (λ lt.
         let up = begins_up so_far i (omega arith) in
         subst KeptTo (sym (pick_old i n (state_at so_far i) u (omega arith)))
-        (keeps_then (view (state_at so_far i)) (view t) (view u) (kept_since so_far i (omega arith) (omega arith)) (on.keeps (omega arith))))
-        (λ e. subst KeptTo (sym (pick_new i n (state_at so_far i) u (omega arith))) (keeps_all (view u)))
+        (keeps_trans (kept_since so_far i (omega arith) (omega arith)) (on.keeps (omega arith))))
+        (λ e. subst KeptTo (sym (pick_new i n (state_at so_far i) u (omega arith))) (keeps_refl (view u)))
         (last_or i (suc n) (omega arith))
 
     pub kept_between : {n : ℕ} {t : Table G} {end : List (Step G)} (all : Performed a calls os first steps n t end) {i j : ℕ} (one : Place all i) (other : Place all j) → i ≤ j →
