@@ -9,7 +9,7 @@ pub invariant_of-reasoner : goal.invariant_of-reasoner
 invariant_of-reasoner g c =
     let t = c.args.reasoner.now in
     let f = cleared_facts t.rows.now t.settled (settled_rows t) c.unmark.new.rows c.unmark.ensures t.len (is_begun t.phase) c.requires (facts_of t) in
-    record { rows_fit = f.fits; grades_fit = t.grades_fit; few = t.few; settled_fit = t.settled_fit; turns = f.turns; marks = f.marks; winners = f.winners; index = f.index; sides = f.sides }
+    record { rows_fit = f.fits; grades_fit = t.grades_fit; few = t.few; settled_fit = t.settled_fit; turns = f.turns; in_place = f.in_place; unlisted = f.unlisted; winners = f.winners; index = f.index; sides = f.sides }
 
 pub returns-clause-state : goal.returns-clause-state
 returns-clause-state g c =

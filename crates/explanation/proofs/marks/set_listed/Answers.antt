@@ -1,0 +1,17 @@
+use Rattle.std.proofs.Common.{refl, arith}
+use borrow.Author.Tests.{both_ways}
+use Rattle.saturation.specs.Phases.{is_begun}
+use Rattle.saturation.specs.Tables.{view, row_at}
+use Rattle.saturation.proofs.RowFacts.{facts_of, set_facts}
+use Rattle.saturation.proofs.Siding.{same_chains}
+use Rattle.explanation.specs.Marks.{relisted}
+use Rattle.explanation.proofs.Clearing.{settled_rows}
+use Rattle.explanation.proofs.marks.set_listed.Goals as goal
+
+pub invariant_of-reasoner : goal.invariant_of-reasoner
+invariant_of-reasoner g c =
+    let t = c.args.reasoner.now in
+    let fits = settled_rows t in
+    let within = c.requires.0 in
+    let f = set_facts t.rows.now t.settled t.len (is_begun t.phase) (facts_of t) c.args.k (relisted (row_at (view t) c.args.k) c.args.place) (omega arith) refl refl refl refl (same_chains _ _ refl refl refl refl refl) (λ on. absurd (both_ways _ c.requires.1 on)) (λ h. t.winners c.args.k h) in
+    record { rows_fit = f.fits; grades_fit = t.grades_fit; few = t.few; settled_fit = t.settled_fit; turns = f.turns; in_place = f.in_place; unlisted = f.unlisted; winners = f.winners; index = f.index; sides = f.sides }
