@@ -1,7 +1,6 @@
 -- The parts of an explanation put together: the answer, and the reasoner as it was.
-use Rattle.std.proofs.Common.{◌≡◌, ℕ, ◌+◌, ◌<◌, ◌≤◌, true, List, [], ◌∷◌, ◌++◌, length, take, drop, get_or, Some, None, Ok, Err, Option, Result, sym, refl, ap, ◌∙◌, subst, arith, length-drop, MatchOption}
+use Rattle.std.proofs.Common.{◌≡◌, ℕ, ◌+◌, ◌<◌, ◌≤◌, true, List, [], ◌∷◌, ◌++◌, length, take, drop, get_or, Some, None, Ok, Err, Option, Result, sym, refl, ap, ◌∙◌, subst, arith, length-drop}
 use Rattle.std.proofs.lemmas.List.{ext_get_or, get_or-take, get_or-drop, length-take-le, take-append-drop}
-use Rattle.std.specs.Prelude.{◌≢◌}
 use Rattle.std.specs.Option.{ok_or}
 use Rattle.standpoint.specs.declared.refusal.Refusal.{Refusal}
 use Rattle.standpoint.specs.declared.refusal.Refusal.TheVariants.{Unsettled, RestsOnLater, BufferTooShort}
@@ -9,8 +8,8 @@ use Rattle.standpoint.specs.declared.statement.Statement.{Statement}
 use Rattle.standpoint.specs.declared.step.Step.{Step}
 use Rattle.saturation.specs.declared.table.Table.{Table}
 use Rattle.saturation.specs.Phases.{is_begun}
-use Rattle.saturation.specs.Rows.{Unmarked}
-use Rattle.saturation.specs.Tables.{State, view, statement_at, turn_at}
+use Rattle.saturation.specs.Rows.{Unlisted}
+use Rattle.saturation.specs.Tables.{State, view}
 use Rattle.reasoner.specs.Asking.{Askable}
 use Rattle.explanation.specs.Needed.{Unfounded, rank, ChosenWritten, Renumbers, ListOf, OneList}
 use Rattle.explanation.specs.Marks.{mark_at, Clean, ButMarks, MarksDown}
@@ -34,11 +33,6 @@ module _ {G : Type 0} where
   pub finds : (s : Table G) (x : Statement) (o : Option ℕ) (r : Result ℕ Refusal) → r ≡ ok_or o Unsettled → Askable s x → SettledAs (view s) x o → Finds s x r
   finds s x None r is asked at = subst (Finds s x) (sym is) (not_settled asked at)
   finds s x (Some t) r is asked at = subst (Finds s x) (sym is) (asked, at)
-
-  pub settled_first : (s : State G) (x : Statement) (r : Option ℕ) →
-      MatchOption r ((k : ℕ) → 0 ≤ k → k < s.settled → statement_at s (turn_at s k) ≢ x) (λ i. (0 ≤ i) × (i < s.settled) × (statement_at s (turn_at s i) ≡ x) × ((k : ℕ) → 0 ≤ k → k < i → statement_at s (turn_at s k) ≢ x)) → SettledAs s x r
-  settled_first s x None none = λ k h. none k (omega arith) h
-  settled_first s x (Some t) (low, within, holds, first) = record { within = within; holds = holds; first = λ k h. first k (omega arith) h }
 
   pub refuses_later : (s : State G) (t : ℕ) (old new : List (Step G)) (r : Result ℕ Refusal) (e : Refusal) → r ≡ Err e → e ≡ RestsOnLater → new ≡ old → Unfounded s t → Writes s t old new r
   refuses_later s t old new r e is later same un = subst (Writes s t old new) (sym (is ∙ ap Err later)) (rests_on_later un same)
@@ -85,7 +79,7 @@ module _ {G : Type 0} where
     pub rows_as_before : view u ≡ view a
     rows_as_before =
         let f = a.settled_fit in
-        clean_same (view a) (view u) (but_marks_trans (view a) (view l) (view u) marked cleared) (λ k lt. a.marks begun k (omega arith)) clean
+        clean_same (view a) (view u) (but_marks_trans (view a) (view l) (view u) marked cleared) (λ k lt. a.unlisted begun k (omega arith)) clean
 
-    pub unmarked : Unmarked u.rows.now u.len (is_begun a.phase)
-    unmarked = subst (λ (s : State G). Unmarked s.rows s.len (is_begun a.phase)) (sym rows_as_before) a.marks
+    pub unlisted : Unlisted u.rows.now u.len (is_begun a.phase)
+    unlisted = subst (λ (s : State G). Unlisted s.rows s.len (is_begun a.phase)) (sym rows_as_before) a.unlisted

@@ -7,6 +7,7 @@ pub mod OneLists
 pub mod Listing
 pub mod Keeping
 pub mod Ordered
+pub mod Numbering
 pub mod Written
 pub mod Answering
 pub mod RightSteps

@@ -1,8 +1,8 @@
 // The rows of a table.
 use standpoint::{ACCEPTED, Statement, TAUTOLOGY};
 
-// The rule, or what stands for one in a `Step`, and the settling places of the premises, from 1, 0 where unused. Plain numbers: a place is written as the count of marked places up to it, and up to 0 there are none, so that
-// no number of premises is a case of its own.
+// The rule, or what stands for one in a `Step`, and the settling places of the premises, from 1, 0 where unused. Plain numbers: 0 is
+// written out as 0, so that no number of premises is a case of its own.
 #[derive(Clone, Copy)]
 pub struct Kept {
     pub rule: u8,
