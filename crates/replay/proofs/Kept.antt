@@ -1,5 +1,5 @@
 -- What was settled is kept from call to call.
-use Rattle.std.proofs.Common.{ℕ, ◌<◌, ◌≤◌, Ok, get_or, sym, refl, ap, ◌∙◌, subst, arith}
+use Rattle.std.proofs.Common.{ℕ, ◌<◌, ◌≤◌, Ok, get_or, sym, ap, ◌∙◌, subst, arith}
 use Rattle.standpoint.specs.declared.statement.Statement.{Statement}
 use Rattle.standpoint.specs.Algebra.{Algebra}
 use Rattle.runs.specs.declared.Stand.{Stand}

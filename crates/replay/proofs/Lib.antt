@@ -5,3 +5,4 @@ pub mod Histories
 pub mod Places
 pub mod Promises
 pub mod Explanations
+mod Beyond

@@ -13,7 +13,7 @@ use Rattle.runs.specs.Runs.{Run, Stands}
 use Rattle.saturation.specs.declared.row.Row.{Row}
 use Rattle.saturation.specs.declared.table.Table.{Table}
 use Rattle.saturation.specs.Phases.{is_begun}
-use Rattle.saturation.specs.Tables.{view, fresh, capacity}
+use Rattle.saturation.specs.Tables.{view, fresh}
 use Rattle.reasoner.specs.declared.asking.Answer.{Answer}
 use Rattle.reasoner.specs.declared.asking.Answer.TheVariants.{Graded, Nothing}
 use Rattle.reasoner.specs.Asking.{BestGrade, Underivable, Unmeetable}
@@ -23,10 +23,6 @@ use Rattle.replay.specs.declared.call.Call.TheVariants.{Ask, Explain}
 use Rattle.replay.specs.declared.call.Done.TheVariants.{Said, Explained}
 use Rattle.replay.specs.Performing.{Performed}
 use Rattle.replay.specs.Pasts.{Outcome, call_at, outcome_at, before, written}
-
--- how many rows a reasoner over this memory has
-abbrev pub rows_in : {G : Type 0} → List Row → List G → ℕ
-rows_in rows grades = capacity (fresh rows grades)
 
 -- n calls were performed in order on a new reasoner over this memory, and left this
 pub record Replayed {G : Type 0} (a : Algebra G) (rows : List Row) (grades : List G) (calls : List (Call G)) (outcomes : List (Outcome G)) (steps : List (Step G)) (n : ℕ)

@@ -1,10 +1,14 @@
 -- What is left of memory, and of what was settled, by one call after the other.
-use Rattle.std.proofs.Common.{◌≡◌, ℕ, ◌+◌, ◌<◌, ◌≤◌, min, length, get_or, sym, refl, ap, ◌∙◌, subst, arith}
+use Rattle.std.proofs.Common.{◌≡◌, ℕ, ◌+◌, ◌<◌, ◌≤◌, min, Bool, length, get_or, sym, refl, ap, ◌∙◌, subst, arith}
 use Rattle.std.proofs.lemmas.Option.{none-some}
 use Rattle.saturation.specs.Rows.{TurnsWithin, TurnsPlaced}
 use Rattle.saturation.specs.Tables.{State, capacity, row_at, statement_at, turn_at, OpenAt}
 use Rattle.saturation.specs.Tournament.{ButWinners}
-use Rattle.saturation.specs.Memory.{content, Leaves, KeepsSettled, SettlesRows, ButRow}
+use Rattle.standpoint.specs.declared.statement.Statement.{Statement}
+use Rattle.standpoint.specs.Algebra.{Algebra}
+use Rattle.saturation.specs.declared.row.Kept.{Kept}
+use Rattle.saturation.specs.Memory.Offered.{new, bettered, as_good, no_row}
+use Rattle.saturation.specs.Memory.{SameBeyond, Offered, content, Leaves, KeepsSettled, SettlesRows, ButRow}
 use Rattle.saturation.specs.Offering.{Grown}
 
 module _ {G : Type 0} where
@@ -116,3 +120,29 @@ module _ {G : Type 0} where
       let e = a.counts in
       let f = b.counts in
       record { more = omega arith; leaves = leaves_trans high a.leaves b.leaves; kept_settled = keeps_trans a.kept_settled b.kept_settled; counts = omega arith }
+
+  -- an offer gives no row back
+  pub offered_more : (a : Algebra G) (s t : State G) (x : Statement) (g : G) (step : Kept) (r : Bool) → Offered a s t x g step r → s.len ≤ t.len
+  offered_more a s t x g step r (new absent room more set) = omega arith
+  offered_more a s t x g step r (bettered i within is un worse same set) = omega arith
+  offered_more a s t x g step r (as_good i within is good same) = let e = ap (λ (z : State G). z.len) same in omega arith
+  offered_more a s t x g step r (no_row absent none same) = let e = ap (λ (z : State G). z.len) same in omega arith
+
+  -- memory beyond the rows that are used
+  pub beyond_refl : (s : State G) → SameBeyond s s
+  beyond_refl s = record { rows_long = refl; grades_long = refl; rows = λ k h. refl; grades = λ k h d. refl }
+
+  pub beyond_trans : {s t u : State G} → SameBeyond s t → SameBeyond t u → SameBeyond s u
+  beyond_trans {s} {t} {u} a b =
+      let same = same_capacity s t a.rows_long a.grades_long in
+      record {
+        rows_long = b.rows_long ∙ a.rows_long;
+        grades_long = b.grades_long ∙ a.grades_long;
+        rows = λ k h. b.rows k (omega arith) ∙ a.rows k h;
+        grades = λ k h d. b.grades k (omega arith) d ∙ a.grades k h d;
+      }
+
+  pub leaves_beyond : {s t : State G} → t.len ≤ capacity t → Leaves s t → SameBeyond s t
+  leaves_beyond {s} {t} fits l =
+      let same = leaves_capacity l in
+      record { rows_long = l.rows_long; grades_long = l.grades_long; rows = l.beyond; grades = λ k h. l.free_grades k (omega arith) }

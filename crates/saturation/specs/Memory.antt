@@ -19,6 +19,13 @@ pub record Leaves {G : Type 0} (s t : State G) : Type 0 where
   pub free_rows : (k : ℕ) → t.len ≤ k → content (row_at t k) ≡ content (row_at s k)
   pub free_grades : (k : ℕ) → t.len ≤ k → (d : G) → slice_index_or t.grades k d ≡ slice_index_or s.grades k d
 
+-- all beyond the rows that are used is as it was
+pub record SameBeyond {G : Type 0} (s t : State G) : Type 0 where
+  pub rows_long : length t.rows ≡ length s.rows
+  pub grades_long : length t.grades ≡ length s.grades
+  pub rows : (k : ℕ) → capacity s ≤ k → row_at t k ≡ row_at s k
+  pub grades : (k : ℕ) → capacity s ≤ k → (d : G) → slice_index_or t.grades k d ≡ slice_index_or s.grades k d
+
 -- what was settled stays settled in its turn, with its statement, step and grade
 pub record KeepsSettled {G : Type 0} (s t : State G) : Type 0 where
   pub more : s.settled ≤ t.settled

@@ -5,6 +5,7 @@ use Rattle.replay.specs.Replays.{NothingIsExact}
 use Rattle.replay.proofs.Promises.{grades_are_best, graded_contradiction_excludes, nothing_is_exact}
 use Rattle.replay.proofs.Explanations.{explanations_are_one}
 use Rattle.replay.proofs.Performed.{behind_kept}
+use Rattle.replay.proofs.Beyond.{performed_beyond, memory_beyond}
 use Rattle.replay.proofs.replaying.replay.Goals as goal
 
 pub returns : goal.returns
@@ -20,6 +21,7 @@ returns g c =
     record {
       count = c.perform_all.ensures.count;
       later = c.perform_all.ensures.later;
+      memory = memory_beyond new c.perform_all.new.reasoner c.args.rows.now _ c.args.grades.now _ c.make-reasoner.ensures.state (search rules) (search rules) (performed_beyond a calls done);
       performed = record {
         new = new;
         empty = c.make-reasoner.ensures.state;
