@@ -107,6 +107,10 @@ module _ {G : Type 0} (a : Algebra G) (laws : Laws a) (b : Base G) (l : Settled 
       let places : ◌≡◌ {A = Option ℕ} (Some j) (Some k) = sym (h.lists.marked j lt) ∙ ap (λ (i : ℕ). (row_at (view s) i).place) rows ∙ h.lists.marked k gt in
       cc
 
+  -- a statement is settled at one grade
+  regraded : (d g : G) (steps : List (Step G)) → Explanation a b l x d steps → In l (x, g) → Explanation a b l x g steps
+  regraded d g steps e m = subst (λ (z : G). Explanation a b l x z steps) (settled_once a b h.run x d g e.settled m) e
+
   pub listed_so : (g : G) → In l (x, g) → Listed g
   listed_so g m =
       let p = in_stands l (x, g) m in
@@ -127,5 +131,5 @@ module _ {G : Type 0} (a : Algebra G) (laws : Laws a) (b : Base G) (l : Settled 
         first = at;
         list = one.0;
         is = one.1.is;
-        explanation = subst (λ (d : G). Explanation a b l x d one.0) (settled_once a b h.run x e.0 g e.1.settled m) e.1;
+        explanation = regraded e.0 g one.0 e.1 m;
       }
