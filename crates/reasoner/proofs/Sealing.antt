@@ -58,7 +58,7 @@ module _ {G : Type 0} (al : Algebra G) (n : ℕ) (s t : Table G) (r : ℕ × Sta
   )
 
 pub settles_as_table : {G : Type 0} (al : Algebra G) (n : ℕ) (s t : Table G) (r : Result (ℕ × Stand) Refusal) → TableSettles al n s t r → SettledSo al n s t r
-settles_as_table al n s t (Ok r) h = settled_so al n s t r h.2 h.3 h.0 h.1
+settles_as_table al n s t (Ok r) h = settled_so al n s t r h.2 h.4 h.0 h.1
 settles_as_table al n s t (Err e) h = ((h.0, h.1), h.2, h.3)
 
 pub settles_long : {G : Type 0} (al : Algebra G) (n : ℕ) (s t : Table G) (r : Result (ℕ × Stand) Refusal) → TableSettles al n s t r → capacity (view t) ≡ capacity (view s)

@@ -16,11 +16,21 @@ use Rattle.saturation.specs.Tables.{State, row_at, statement_at, OpenAt, capacit
 use Rattle.saturation.specs.Offering.{Apart}
 use Rattle.saturation.specs.Searching.{Lists}
 use Rattle.saturation.specs.Turns.{FirstOffered, TookTurn, Turned}
-use Rattle.saturation.specs.Saturation.{Holds, WentOn}
+use Rattle.saturation.specs.Saturation.{Holds, HoldsFull}
 use Rattle.saturation.proofs.Offers.{below_or, none_or, in_same}
 use Rattle.saturation.proofs.Lists.{in_append_left, in_append_right, in_append_cases}
 use Rattle.standpoint.proofs.Lists.{in_getD}
 use Rattle.saturation.proofs.Stepping.{offers_up, offers_down, uses_offers, value_at}
+
+-- one turn of a run
+abbrev pub WentOn : {G : Type 0} → Algebra G → Base G → Settled G → State G → Turn → Type 0
+WentOn a base settled t turn.Nothing = Holds a base settled t × AllSettled a base settled
+WentOn {G} a base settled t turn.Settled = (x : Statement) × ((g : G) × (Next a base settled x g × Holds a base (settled ++ (x, g) ∷ []) t))
+WentOn {G} a base settled t turn.Overflowed = (x : Statement) × ((g : G) × (Next a base settled x g × HoldsFull a base (settled ++ (x, g) ∷ []) t))
+
+-- the same of any run that the rows hold, over as many individuals
+abbrev pub GoesOn : {G : Type 0} → Algebra G → ℕ → State G → State G → Turn → Type 0
+GoesOn {G} a individuals s t r = (base : Base G) → base.sizes.individuals ≡ individuals → (settled : Settled G) → Holds a base settled s → WentOn a base settled t r
 
 -- a settled row's statement stands in the settled list
 pub closed_settled : {G : Type 0} (s : State G) (l : Settled G) → Lists s l → (i : ℕ) → i < s.len → (OpenAt s i → ⊥) → (g : G) × In l (statement_at s i, g)

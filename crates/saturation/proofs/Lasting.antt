@@ -10,7 +10,8 @@ use Rattle.runs.specs.declared.Stand.{Stand}
 use Rattle.runs.specs.declared.Stand.TheVariants.{Open, Ended, Full}
 use Rattle.saturation.specs.declared.turn.Turn.TheVariants as turn
 use Rattle.saturation.specs.Tables.{State, capacity}
-use Rattle.saturation.specs.Saturation.{Holds, HoldsFull, HoldsAs, GoesOn, Settles}
+use Rattle.saturation.specs.Saturation.{Holds, HoldsFull, HoldsAs, Settles}
+use Rattle.saturation.proofs.Going.{GoesOn}
 use Rattle.saturation.proofs.Offers.{below_or}
 use Rattle.saturation.proofs.Lists.{Fit}
 use Rattle.saturation.proofs.Counting.{not_full, some_open, all_closed}

@@ -24,4 +24,5 @@ pub mod Taking
 pub mod Going
 pub mod Counting
 pub mod Lasting
+pub mod Turning
 pub mod Sealing

@@ -10,8 +10,9 @@ use Rattle.saturation.specs.declared.phase.Phase.TheVariants.{Idle, Taking, Runn
 use Rattle.saturation.specs.declared.table.Table.{Table}
 use Rattle.saturation.specs.Phases.{is_begun, sizes_of, stands_full, phase_of}
 use Rattle.saturation.specs.Tables.{State, view}
-use Rattle.saturation.specs.Memory.{SettlesRows}
-use Rattle.saturation.specs.Saturation.{Settles, TableSettles}
+use Rattle.saturation.specs.Turns.{TakesTurns}
+use Rattle.saturation.specs.Saturation.{TableSettles}
+use Rattle.saturation.proofs.Turning.{takes_rows, takes_run}
 use Rattle.saturation.specs.Saturation.SettledRows.{went_on}
 
 pub not_standing : (p : Phase) → ((n : Sizes) → p ≡ phase.Full n → ⊥) → stands_full p ≡ false
@@ -27,10 +28,14 @@ phase_on n Full other = absurd (other refl)
 
 module _ {G : Type 0} (al : Algebra G) (n : ℕ) (r : ℕ × Stand) (s t : Table G) (u : State G) where
   pub went_so : (sizes : Sizes) → sizes ≡ sizes_of s.phase → is_begun s.phase ≡ true → stands_full s.phase ≡ false → view t ≡ u → t.phase ≡ phase_of sizes r.1 →
-      r.0 ≤ n → SettlesRows (view s) u r.0 → Settles al sizes.individuals (view s) u n r.0 r.1 → TableSettles al n s t (Ok r)
-  went_so sizes are begun free rows_are ends within rows run = (
-    begun,
-    within,
-    went_on free (ends ∙ ap (λ (m : Sizes). phase_of m r.1) are) (subst (λ (z : State G). SettlesRows (view s) z r.0) (sym rows_are) rows),
-    λ _. subst (λ (m : Sizes). Settles al m.individuals (view s) (view t) n r.0 r.1) are (subst (λ (z : State G). Settles al sizes.individuals (view s) z n r.0 r.1) (sym rows_are) run),
-  )
+      r.0 ≤ n → TakesTurns al sizes.individuals n (view s) u r.0 r.1 → TableSettles al n s t (Ok r)
+  went_so sizes are begun free rows_are ends within turns =
+      let v = (sizes_of s.phase).individuals in
+      let told : TakesTurns al v n (view s) (view t) r.0 r.1 =
+      subst (λ (m : Sizes). TakesTurns al m.individuals n (view s) (view t) r.0 r.1) are (subst (λ (z : State G). TakesTurns al sizes.individuals n (view s) z r.0 r.1) (sym rows_are) turns) in (
+        begun,
+        within,
+        went_on free (ends ∙ ap (λ (m : Sizes). phase_of m r.1) are) (takes_rows al v n (view s) (view t) r.0 r.1 told),
+        λ _. told,
+        λ _. takes_run al v n (view s) (view t) r.0 r.1 told,
+      )

@@ -12,7 +12,7 @@ use Rattle.saturation.specs.Tournament.{Played, PlayedBut, ButWinners}
 use Rattle.saturation.specs.Memory.{SettlesRows}
 use Rattle.saturation.specs.declared.turn.Turn.{Turn}
 use Rattle.saturation.specs.declared.turn.Turn.TheVariants.{Nothing, Settled, Overflowed}
-use Rattle.saturation.specs.Turns.{TookTurn, Turned, settled_by}
+use Rattle.saturation.specs.Turns.{TookTurn, Turned}
 use Rattle.saturation.proofs.Lists.{Fit, lists_grown}
 use Rattle.saturation.proofs.Leaving.{leaves_trans, leaves_capacity, keeps_trans, grown_keeps, settles_none}
 use Rattle.saturation.proofs.Rematching.{touched_played}
@@ -86,6 +86,12 @@ module _ {G : Type 0} (al : Algebra G) (laws : Laws al) (v : ℕ) (s m n t : Sta
 -- as many turns as rows leave no row unsettled
 pub turns_out : {G : Type 0} (s : State G) → Fit s → s.len ≤ s.settled → (l : List (Statement × G)) → Lists s l → (k : ℕ) → k < s.len → OpenAt s k → ⊥
 turns_out s fit out l is k h free = let r = open_room s l is fit k h free in omega arith
+
+-- how many statements a turn settles
+abbrev pub settled_by : Turn → ℕ
+settled_by Nothing = 0
+settled_by Settled = 1
+settled_by Overflowed = 1
 
 -- what a turn leaves of rows
 pub turned_rows : {G : Type 0} (al : Algebra G) (v : ℕ) (s t : State G) (r : Turn) → Turned al v s t r → SettlesRows s t (settled_by r)

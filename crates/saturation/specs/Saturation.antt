@@ -1,20 +1,19 @@
 -- A table that holds a run.
-use Rattle.std.specs.Prelude.{◌≡◌, ℕ, ◌≤◌, true, false, cond, List, [], ◌∷◌, ◌++◌, length, Ok, Err, Result, nat_le}
+use Rattle.std.specs.Prelude.{◌≡◌, ℕ, ◌≤◌, true, false, cond, List, ◌++◌, length, Ok, Err, Result}
 use Rattle.standpoint.specs.declared.refusal.Refusal.{Refusal}
 use Rattle.standpoint.specs.declared.refusal.Refusal.TheVariants.{NotBegun}
 use Rattle.standpoint.specs.declared.statement.Statement.{Statement}
 use Rattle.standpoint.specs.Lists.{In}
 use Rattle.standpoint.specs.Algebra.{Algebra}
 use Rattle.standpoint.specs.Derivations.{Base}
-use Rattle.runs.specs.Runs.{Settled, Offers, Next, Run, Stands, AllSettled, Settling}
+use Rattle.runs.specs.Runs.{Settled, Offers, Run, Stands, Settling}
 use Rattle.runs.specs.declared.Stand.{Stand}
 use Rattle.runs.specs.declared.Stand.TheVariants.{Open, Ended, Full}
-use Rattle.saturation.specs.declared.turn.Turn.{Turn}
-use Rattle.saturation.specs.declared.turn.Turn.TheVariants as turn
 use Rattle.saturation.specs.declared.table.Table.{Table}
 use Rattle.saturation.specs.Phases.{is_begun, sizes_of, stands_full, phase_of}
 use Rattle.saturation.specs.Tables.{State, view, capacity}
 use Rattle.saturation.specs.Memory.{SettlesRows}
+use Rattle.saturation.specs.Turns.{TakesTurns, stand_of_rows}
 use Rattle.saturation.specs.Offering.{Apart, Ranked, RowsRight, Explained}
 use Rattle.saturation.specs.Searching.{Lists}
 
@@ -37,16 +36,6 @@ pub record HoldsFull {G : Type 0} (a : Algebra G) (base : Base G) (settled : Set
   pub full : Stands a base (capacity s) settled Full
   pub explained : Explained a base settled s
 
--- one turn of a run
-abbrev pub WentOn : {G : Type 0} → Algebra G → Base G → Settled G → State G → Turn → Type 0
-WentOn a base settled t turn.Nothing = Holds a base settled t × AllSettled a base settled
-WentOn {G} a base settled t turn.Settled = (x : Statement) × ((g : G) × (Next a base settled x g × Holds a base (settled ++ (x, g) ∷ []) t))
-WentOn {G} a base settled t turn.Overflowed = (x : Statement) × ((g : G) × (Next a base settled x g × HoldsFull a base (settled ++ (x, g) ∷ []) t))
-
--- the same of any run that the rows hold, over as many individuals
-abbrev pub GoesOn : {G : Type 0} → Algebra G → ℕ → State G → State G → Turn → Type 0
-GoesOn {G} a individuals s t r = (base : Base G) → base.sizes.individuals ≡ individuals → (settled : Settled G) → Holds a base settled s → WentOn a base settled t r
-
 -- what the rows hold of a run that stands so
 abbrev pub HoldsAs : {G : Type 0} → Algebra G → Base G → Settled G → State G → Stand → Type 0
 HoldsAs a base settled s Open = Holds a base settled s
@@ -55,7 +44,7 @@ HoldsAs a base settled s Full = HoldsFull a base settled s
 
 -- how a table stands
 abbrev pub stand_of : {G : Type 0} → Table G → Stand
-stand_of t = cond (stands_full t.phase) Full (cond (nat_le t.len t.settled) Ended Open)
+stand_of t = cond (stands_full t.phase) Full (stand_of_rows (view t))
 
 -- n turns, unless the run stands ended or full before: how many were taken, and how the run stands
 abbrev pub Settles : {G : Type 0} → Algebra G → ℕ → State G → State G → ℕ → ℕ → Stand → Type 0
@@ -75,5 +64,6 @@ pub data SettledRows {G : Type 0} (s t : Table G) : ℕ → Stand → Type 0 whe
 abbrev pub TableSettles : {G : Type 0} → Algebra G → ℕ → Table G → Table G → Result (ℕ × Stand) Refusal → Type 0
 TableSettles a n s t (Ok r) =
     (is_begun s.phase ≡ true) × (r.0 ≤ n) × SettledRows s t r.0 r.1
+    × (stands_full s.phase ≡ false → TakesTurns a (sizes_of s.phase).individuals n (view s) (view t) r.0 r.1)
     × (stands_full s.phase ≡ false → Settles a (sizes_of s.phase).individuals (view s) (view t) n r.0 r.1)
 TableSettles a n s t (Err e) = (view t ≡ view s) × (t.phase ≡ s.phase) × (e ≡ NotBegun) × (is_begun s.phase ≡ false)

@@ -1,5 +1,5 @@
 -- One turn: the next statement is settled, and what follows from it is offered.
-use Rattle.std.specs.Prelude.{◌≡◌, ℕ, ◌+◌, ◌<◌, ◌≤◌, Bool, true, false, ◌⊎◌, List, [], ◌∷◌, ◌++◌, length}
+use Rattle.std.specs.Prelude.{◌≡◌, ℕ, ◌+◌, ◌<◌, ◌≤◌, Bool, true, false, cond, nat_le, ◌⊎◌, List, [], ◌∷◌, ◌++◌, length}
 use Rattle.standpoint.specs.declared.statement.Statement.{Statement}
 use Rattle.standpoint.specs.Lists.{In}
 use Rattle.standpoint.specs.Algebra.{Algebra, NoWorse}
@@ -8,7 +8,10 @@ use Rattle.standpoint.specs.Derivations.{Base}
 use Rattle.runs.specs.Runs.{Unsettled}
 use Rattle.saturation.specs.declared.turn.Turn.{Turn}
 use Rattle.saturation.specs.declared.turn.Turn.TheVariants.{Nothing, Settled, Overflowed}
-use Rattle.saturation.specs.Tables.{State, statement_at, OpenAt}
+use Rattle.runs.specs.declared.Stand.{Stand}
+use Rattle.runs.specs.declared.Stand.TheVariants.{Open, Ended, Full}
+use Rattle.saturation.specs.declared.table.Table.{Table}
+use Rattle.saturation.specs.Tables.{State, view, statement_at, OpenAt}
 use Rattle.saturation.specs.Memory.{Leaves, KeepsSettled}
 use Rattle.saturation.specs.Places.{Uses}
 use Rattle.saturation.specs.Offering.{Apart, Ranked, RowsRight, Explained}
@@ -45,8 +48,19 @@ Turned {G} a individuals s t Nothing = (t ≡ s) × ((settled offered : List (St
 Turned a individuals s t Settled = TookTurn a individuals s t true
 Turned a individuals s t Overflowed = TookTurn a individuals s t false
 
--- how many statements a turn settles
-abbrev pub settled_by : Turn → ℕ
-settled_by Nothing = 0
-settled_by Settled = 1
-settled_by Overflowed = 1
+-- so many turns, each of which settled a statement, led to this state
+pub data Turns {G : Type 0} (a : Algebra G) (individuals : ℕ) (s : State G) : ℕ → State G → Type 0 where
+  none : Turns a individuals s 0 s
+  one_more : {k : ℕ} (t u : Table G) → Turns a individuals s k (view t) → Turned a individuals (view t) (view u) Settled → Turns a individuals s (k + 1) (view u)
+
+-- how the rows stand of a run that does not stand full
+abbrev pub stand_of_rows : {G : Type 0} → State G → Stand
+stand_of_rows s = cond (nat_le s.len s.settled) Ended Open
+
+-- n turns, unless nothing is left to settle or something found no row: how many settled a statement, and how the run stands
+pub data TakesTurns {G : Type 0} (a : Algebra G) (individuals n : ℕ) (s t : State G) (count : ℕ) : Stand → Type 0 where
+  all_taken : (u : Table G) → Turns a individuals s count (view u) → count ≡ n → t ≡ view u → TakesTurns a individuals n s t count (stand_of_rows t)
+  nothing_left : (u v : Table G) → Turns a individuals s count (view u) → count < n → Turned a individuals (view u) (view v) Nothing → t ≡ view v →
+      TakesTurns a individuals n s t count Ended
+  overflowed : {k : ℕ} (u v : Table G) → Turns a individuals s k (view u) → k < n → count ≡ k + 1 → Turned a individuals (view u) (view v) Overflowed → t ≡ view v →
+      TakesTurns a individuals n s t count Full

@@ -1,11 +1,9 @@
 // Turns in the words of a run.
-ghost use Rattle.std.specs.Prelude.{◌≡◌, ◌≤◌, if◌then◌else◌, nat_le};
-ghost use Rattle.runs.specs.declared.Stand.TheVariants.{Open, Ended};
+ghost use Rattle.std.specs.Prelude.{◌≡◌, ◌≤◌};
 ghost use Rattle.saturation.specs.Phases.{sizes_of};
 ghost use Rattle.saturation.specs.Tables.{view, OverSame, Same};
-ghost use Rattle.saturation.specs.Memory.{SettlesRows};
-ghost use Rattle.saturation.specs.Turns.{settled_by};
-ghost use Rattle.saturation.specs.Saturation.{GoesOn, Settles, TableSettles, stand_of};
+ghost use Rattle.saturation.specs.Turns.{TakesTurns, stand_of_rows};
+ghost use Rattle.saturation.specs.Saturation.{TableSettles, stand_of};
 
 use crate::phase::Phase;
 use crate::table::Table;
@@ -43,7 +41,7 @@ impl<'a, G: Copy> Table<'a, G> {
 
     // How a run stands that does not stand full.
     fn stand_of_rows(&self) -> Stand
-        ensures { result ≡ (if nat_le self.now.len self.now.settled then Ended else Open) }
+        ensures { result ≡ stand_of_rows (view self.now) }
     {
         if self.len <= self.settled {
             Stand::Ended
@@ -56,26 +54,16 @@ impl<'a, G: Copy> Table<'a, G> {
     fn turns<K: Kind<Grade = G>>(&mut self, kind: &K, n: u32) -> (u32, Stand)
         ensures same { Same self.old self.new }
         ensures within { result.0 ≤ n }
-        ensures rows { SettlesRows (view self.old) (view self.new) result.0 }
-        ensures run { Settles (K.Kind.algebra kind.now) (sizes_of self.old.phase).individuals (view self.old) (view self.new) n result.0 result.1 }
+        ensures turns { TakesTurns (K.Kind.algebra kind.now) (sizes_of self.old.phase).individuals n (view self.old) (view self.new) result.0 result.1 }
     {
         // The count of turns is part of the answer.
         for k in 0..n {
-            match self.go_on(kind) {
+            match self.settle_one(kind) {
                 Turn::Nothing => return (k, Stand::Ended),
                 Turn::Overflowed => return (k + 1, Stand::Full),
                 Turn::Settled => {}
             }
         }
         (n, self.stand_of_rows())
-    }
-
-    // The same turn in the words of a run: `settle_one` speaks of rows alone.
-    fn go_on<K: Kind<Grade = G>>(&mut self, kind: &K) -> Turn
-        ensures same { Same self.old self.new }
-        ensures rows { SettlesRows (view self.old) (view self.new) (settled_by result) }
-        ensures run { GoesOn (K.Kind.algebra kind.now) (sizes_of self.old.phase).individuals (view self.old) (view self.new) result }
-    {
-        self.settle_one(kind)
     }
 }

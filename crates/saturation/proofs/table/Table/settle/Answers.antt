@@ -9,7 +9,7 @@ use Rattle.saturation.proofs.table.Table.settle.Goals as goal
 pub returns-in-Full-clause-answer : goal.returns-in-Full-clause-answer
 returns-in-Full-clause-answer g c =
     let full = ap stands_full c.in-Full.is in
-    (c.in_ok-sizes.ensures.0, omega arith, stood_full full refl refl, λ free. absurd (both_ways _ free full))
+    (c.in_ok-sizes.ensures.0, omega arith, stood_full full refl refl, λ free. absurd (both_ways _ free full), λ free. absurd (both_ways _ free full))
 
 pub returns-in-Full-stand-clause-answer : goal.returns-in-Full-stand-clause-answer
 returns-in-Full-stand-clause-answer g c =
@@ -18,7 +18,7 @@ returns-in-Full-stand-clause-answer g c =
     let r = c.turns-count.result in
     let sizes = c.in_ok-sizes.sizes in
     went_so (g.K.Kind.algebra c.args.kind.now) c.args.n r s _ (view c.turns-count.new.self) sizes c.in_ok-sizes.ensures.1 c.in_ok-sizes.ensures.0 (not_standing s.phase c.in_default.not-Full)
-    refl (ap (phase_of sizes) (sym c.in-Full-stand.is)) turns.within turns.rows turns.run
+    refl (ap (phase_of sizes) (sym c.in-Full-stand.is)) turns.within turns.turns
 
 pub returns-in_default-stand-clause-answer : goal.returns-in_default-stand-clause-answer
 returns-in_default-stand-clause-answer g c =
@@ -28,4 +28,4 @@ returns-in_default-stand-clause-answer g c =
     let r = c.turns-count.result in
     let sizes = c.in_ok-sizes.sizes in
     went_so (g.K.Kind.algebra c.args.kind.now) c.args.n r s u (view u) sizes c.in_ok-sizes.ensures.1 c.in_ok-sizes.ensures.0 (not_standing s.phase c.in_default.not-Full)
-    refl (turns.same.2 ∙ phase_on sizes r.1 c.in_default-stand.not-Full) turns.within turns.rows turns.run
+    refl (turns.same.2 ∙ phase_on sizes r.1 c.in_default-stand.not-Full) turns.within turns.turns
