@@ -6,7 +6,8 @@ Usage: growth.py [--rows N ...] [--mixes NAME ...] [--kind T] [--runs N] [--seed
 
 Prints a row for each mix and number of rows. With --explained the twin is not measured: the last settled statement is explained so
 often, and beside its number of steps stand the processor's time for the file and for one explanation. A mix whose run takes longer
-than the limit is not tried with more rows. Ends with status 1 where the two programs differ in how the run stands or in the number of settled statements.
+than the limit is not tried with more rows. Ends with status 1 where the two programs differ in how the run stands or in the number of
+settled statements.
 """
 import argparse
 import os
