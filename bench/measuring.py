@@ -1,6 +1,7 @@
 """Builds the programs, and measures what they take."""
 import glob
 import os
+import resource
 import statistics
 import subprocess
 import sys
@@ -45,9 +46,17 @@ def milliseconds(command, path):
     return 1000 * (time.perf_counter() - start)
 
 
-def medians(commands, path, runs):
+def processor_milliseconds(command, path):
+    """What the process took of a processor, whatever else runs beside it."""
+    before = resource.getrusage(resource.RUSAGE_CHILDREN)
+    output(command, path)
+    after = resource.getrusage(resource.RUSAGE_CHILDREN)
+    return 1000 * (after.ru_utime + after.ru_stime - before.ru_utime - before.ru_stime)
+
+
+def medians(commands, path, runs, took=milliseconds):
     """The median of each command's times; the commands take turns, so that a busy machine slows all of them."""
-    times = [[milliseconds(command, path) for command in commands] for _ in range(runs)]
+    times = [[took(command, path) for command in commands] for _ in range(runs)]
     return [statistics.median(column) for column in zip(*times)]
 
 

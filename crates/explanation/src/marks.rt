@@ -18,6 +18,7 @@ pub(crate) fn marked<G: Copy>(reasoner: &Table<'_, G>, k: usize) -> bool
     reasoner.rows[k].listed > 0
 }
 
+// Lists a place for the k-th settled statement.
 fn set_listed<G: Copy>(reasoner: &mut Table<'_, G>, k: usize, place: u32)
     requires { (k < reasoner.old.settled) × (is_begun reasoner.old.phase ≡ false) }
     ensures same { Same reasoner.old reasoner.new }
@@ -35,7 +36,7 @@ fn set_mark<G: Copy>(reasoner: &mut Table<'_, G>, k: usize)
     set_listed(reasoner, k, 1);
 }
 
-// Takes all marks back.
+// Takes back all that is listed.
 pub(crate) fn clear<G: Copy>(reasoner: &mut Table<'_, G>)
     requires { is_begun reasoner.old.phase ≡ false }
     ensures same { Same reasoner.old reasoner.new }
@@ -45,7 +46,7 @@ pub(crate) fn clear<G: Copy>(reasoner: &mut Table<'_, G>)
     unmark(&mut reasoner.rows[..reasoner.settled]);
 }
 
-// Takes the marks of rows back.
+// Takes back what is listed in rows.
 fn unmark(rows: &mut [Row])
     ensures { rows.new ≡ map (λ r. relisted r 0) rows.old }
 {
