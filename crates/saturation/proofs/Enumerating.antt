@@ -9,7 +9,7 @@ use Rattle.saturation.specs.declared.places.Position.{Position}
 use Rattle.saturation.specs.declared.places.Position.TheVariants.{First, Second, Third}
 use Rattle.saturation.specs.declared.lane.Lane.{Lane}
 use Rattle.saturation.specs.Sides.{settled_at}
-use Rattle.saturation.specs.Lanes.{Within, when, takes, beside, last_lane}
+use Rattle.saturation.specs.Lanes.{Within, when, takes, partner_lane, last_lane}
 use Rattle.saturation.specs.Tables.{State, statement_at, turn_at}
 use Rattle.saturation.specs.declared.places.Places.{Places}
 use Rattle.saturation.specs.Places.{Step, Uses, listed_places}
@@ -42,18 +42,18 @@ in_arranged rule Third n i j = inr (inr (inl refl))
 in_seated : (rule : ℕ) (position : Position) (n i j : ℕ) → In (seated rule position n i j) n
 in_seated rule position n i j = by_count (arity_of rule == 1) (arity_of rule == 2)
   where
-    by_count : (one two : Bool) → In (cond one (n ∷ []) (cond two (paired position n i) (arranged rule position n i j))) n
+    by_count : (one two : Bool) → In (cond one (n ∷ []) (cond two (paired position n j) (arranged rule position n i j))) n
     by_count true two = inl refl
-    by_count false true = in_paired position n i
+    by_count false true = in_paired position n j
     by_count false false = in_arranged rule position n i j
 
 pub seated_settled : (rule : ℕ) (position : Position) (m n i j : ℕ) → n < m → i < m → j < m → SettledPlaces m (seated rule position n i j)
 seated_settled rule position m n i j in_n in_i in_j = by_count (arity_of rule == 1) (arity_of rule == 2)
   where
-    two : (p : Position) → SettledPlaces m (paired p n i)
-    two First = (in_n, (in_i, tt))
-    two Second = (in_i, (in_n, tt))
-    two Third = (in_i, (in_n, tt))
+    two : (p : Position) → SettledPlaces m (paired p n j)
+    two First = (in_n, (in_j, tt))
+    two Second = (in_j, (in_n, tt))
+    two Third = (in_j, (in_n, tt))
 
     middle : (b : Bool) → SettledPlaces m (cond b (i ∷ n ∷ j ∷ []) (j ∷ n ∷ i ∷ []))
     middle true = (in_i, (in_n, (in_j, tt)))
@@ -64,7 +64,7 @@ seated_settled rule position m n i j in_n in_i in_j = by_count (arity_of rule ==
     three Second = middle (rule == 14)
     three Third = (in_i, (in_j, (in_n, tt)))
 
-    by_count : (one more : Bool) → SettledPlaces m (cond one (n ∷ []) (cond more (paired position n i) (arranged rule position n i j)))
+    by_count : (one more : Bool) → SettledPlaces m (cond one (n ∷ []) (cond more (paired position n j) (arranged rule position n i j)))
     by_count true more = (in_n, tt)
     by_count false true = two position
     by_count false false = three position
@@ -110,8 +110,7 @@ module _ {G : Type 0} (al : Algebra G) (v : ℕ) where
     went_lasts s t x y lane on i in_n in_i is_x is_y tells w =
         went_as al v s t (From (when on (last_lane rule position n x y)) (Last i) None) (λ l o. OnLane lane l i × AroundAt i l o) (Using n) (Using n) true
         (λ l is o b.
-        let long = is.long in
-        let found = last_found al v rule l o n x (λ d. sym (is_x ∙ (is.holds n in_n d).0)) i y (λ d. sym (is_y ∙ (is.holds i in_i d).0)) position b.1.0 (omega arith) b.1.1 in
+        let found = last_found al v rule l o n x (λ d. sym (is_x ∙ (is.holds n in_n d).0)) i y (λ d. sym (is_y ∙ (is.holds i in_i d).0)) position b.1.0 b.1.1 in
         (found.0, subst (λ (c : Bool). OnLane (when c (last_lane rule position n x y)) l found.0) (sym (told on tells (within_listed s l is lane i b.0))) found.1, tt, found.2))
         (λ l is o u. u)
         w
@@ -121,11 +120,11 @@ module _ {G : Type 0} (al : Algebra G) (v : ℕ) where
     went_untaken s x in_n is_x off =
         went_none al v s Beside (Using n) (λ l is o b.
         let p = partner_found al v rule l o n x (λ d. sym (is_x ∙ (is.holds n in_n d).0)) position b.0 b.1 b.2 in
-        let on = subst (λ (taken : Bool). OnLane (when taken (beside rule position n x)) l p.0) off p.1 in
+        let on = subst (λ (taken : Bool). OnLane (when taken (partner_lane rule position n x)) l p.0) off p.1 in
         on.1 (value_at l p.0 on.0).0)
 
-    pub partners_taken : (x : Statement) → takes rule position x.shape ≡ true → beside rule position n x ≡ partners rule position n x
-    partners_taken x on = ap (λ (taken : Bool). when taken (beside rule position n x)) (sym on)
+    pub partners_taken : (x : Statement) → takes rule position x.shape ≡ true → partner_lane rule position n x ≡ partners rule position n x
+    partners_taken x on = ap (λ (taken : Bool). when taken (partner_lane rule position n x)) (sym on)
 
     -- the walk along the lane of the partners has ended
     pub went_partners : (s t : State G) (x : Statement) → n < s.settled → x ≡ statement_at s (turn_at s n) →

@@ -5,7 +5,7 @@ ghost use Rattle.saturation.specs.Places.{Uses};
 ghost use Rattle.saturation.specs.Searching.{Went};
 
 use crate::attempt::Inference;
-use crate::joins::{beside, last_lane, takes};
+use crate::joins::{last_lane, partner_lane, takes};
 use crate::lane::Lane;
 use crate::places::Position;
 use crate::rows::NoRow;
@@ -37,7 +37,7 @@ impl<'a, G: Copy> Table<'a, G> {
                 if !takes(rule, position, x.shape) {
                     continue;
                 }
-                let lane = beside(rule, position, newest as u32, x);
+                let lane = partner_lane(rule, position, newest as u32, x);
                 let mut partner = self.last_along(&lane);
                 while let Some(i) = partner {
                     let i = i as usize;

@@ -30,7 +30,7 @@ loop-partner-init g c =
     let t = view c.loop-position.self in
     let n = c.args.newest in
     let F = AroundAt al v (number_of_rule (nth_rule c.search.rule-index)) (nth_position c.loop-position.position-index) n in
-    (c.loop-position.invariant.0, (refl, refl, refl), walk_start al v c.beside-lane.result F (Using al v n) t c.last_along-partner.result c.last_along-partner.ensures)
+    (c.loop-position.invariant.0, (refl, refl, refl), walk_start al v c.partner_lane-lane.result F (Using al v n) t c.last_along-partner.result c.last_along-partner.ensures)
 
 pub loop-last-init : goal.loop-last-init
 loop-last-init g c =
@@ -49,7 +49,7 @@ attempt_along-outcome-requires g c =
     let same_t = c.loop-position.invariant.2.grown.settled in
     let same_m = c.loop-partner.invariant.2.1.grown.settled in
     let in_n : c.args.newest < w.settled = let same_w = c.loop-last.invariant.2.1.grown.settled in let h = c.requires in omega (arith, h, same_s, same_t, same_m, same_w) in
-    let in_i = (stands_kept (view m) (view w) c.beside-lane.result c.loop-partner.partner c.in-Some.i (m.settled_fit, m.turns) c.loop-last.invariant.2.1.grown c.in-Some.is c.loop-partner.invariant.2.0).0 in
+    let in_i = (stands_kept (view m) (view w) c.partner_lane-lane.result c.loop-partner.partner c.in-Some.i (m.settled_fit, m.turns) c.loop-last.invariant.2.1.grown c.in-Some.is c.loop-partner.invariant.2.0).0 in
     let in_j = (stands_kept (view w) (view w) c.when-lasts.result c.loop-last.last c.in-Some-last.j (w.settled_fit, w.turns) (grown_refl (view w)) c.in-Some-last.is c.loop-last.invariant.2.0).0 in
     (in_j, subst (SettledPlaces w.settled) (sym c.seat-places.ensures) (seated_settled (number_of_rule (nth_rule c.search.rule-index)) (nth_position c.loop-position.position-index) w.settled c.args.newest c.in-Some.i c.in-Some-last.j in_n in_i in_j))
 
@@ -89,12 +89,12 @@ loop-last-preserved g c =
 pub next_along-partner-requires : goal.next_along-partner-requires
 next_along-partner-requires g c =
     let m = c.loop-partner.self in
-    stands_kept (view m) (view c.loop-last.self) c.beside-lane.result c.loop-partner.partner c.in-Some.i (m.settled_fit, m.turns) c.loop-last.invariant.2.1.grown c.in-Some.is c.loop-partner.invariant.2.0
+    stands_kept (view m) (view c.loop-last.self) c.partner_lane-lane.result c.loop-partner.partner c.in-Some.i (m.settled_fit, m.turns) c.loop-last.invariant.2.1.grown c.in-Some.is c.loop-partner.invariant.2.0
 
 pub loop-partner-smaller : goal.loop-partner-smaller
 loop-partner-smaller g c =
     let u = c.loop-last.self in
-    let lane = c.beside-lane.result in
+    let lane = c.partner_lane-lane.result in
     link_falls (track u.rows.now lane) (lane_bucket u.rows.now lane) c.loop-partner.partner c.in-Some.i c.next_along-partner.result c.in-Some.is c.next_along-partner.ensures
 
 pub loop-partner-preserved : goal.loop-partner-preserved
@@ -111,7 +111,7 @@ loop-partner-preserved g c =
     let i = c.in-Some.i in
     let x = c.settled_statement-x.result in
     let y = c.settled_statement-y.result in
-    let lane = c.beside-lane.result in
+    let lane = c.partner_lane-lane.result in
     let met = c.is_along-met.result in
     let inv = c.loop-partner.invariant in
     let last = c.loop-last.invariant in
@@ -162,8 +162,8 @@ loop-position-preserved g c =
     let still = grown.settled in
     let taken = sym c.if-not-takes.ensures in
     let is_x = c.settled_statement-x.ensures ∙ sym (statement_kept (view r) (view t) (r.settled_fit, r.turns) grown n c.requires) in
-    let walked = subst (λ (at : Option ℕ). Went al v (view t) m (From c.beside-lane.result F at) (Using al v n) true) c.in_default.is inv.2.1 in
-    let made = went_partners al v rule (nth_position p) n (view t) m c.settled_statement-x.result (omega arith) is_x (subst (λ (lane : Lane). Went al v (view t) m (From lane F None) (Using al v n) true) (c.beside-lane.ensures ∙ partners_taken al v rule (nth_position p) n c.settled_statement-x.result taken) walked) in
+    let walked = subst (λ (at : Option ℕ). Went al v (view t) m (From c.partner_lane-lane.result F at) (Using al v n) true) c.in_default.is inv.2.1 in
+    let made = went_partners al v rule (nth_position p) n (view t) m c.settled_statement-x.result (omega arith) is_x (subst (λ (lane : Lane). Went al v (view t) m (From lane F None) (Using al v n) true) (c.partner_lane-lane.ensures ∙ partners_taken al v rule (nth_position p) n c.settled_statement-x.result taken) walked) in
     (inv.0, same_then out.1 inv.1, went_more al v (view s) (view t) m (Placed al v rule n) (Using al v n) p true (s.settled_fit, s.turns) out.2 made)
 
 pub search-preserved : goal.search-preserved
@@ -219,7 +219,7 @@ returns-then-is_err-clause-state g c =
     let off = c.if-is_err.ensures.negation in
     let here = went_along al v rule (nth_position p) n w u lane i j out c.seat-places.result c.seat-places.ensures c.attempt_along-outcome.ensures.state in
     let lasts = went_stopped al v (view m) w u (From lane L c.loop-last.last) (λ l o. OnLane lane l j × L j l o) U out (m.settled_fit, m.turns) off c.loop-last.invariant.2.1 here in
-    let placed = went_stopped al v (view t) (view m) u (From c.beside-lane.result F c.loop-partner.partner) U U false (t.settled_fit, t.turns) refl c.loop-partner.invariant.2.1 lasts in
+    let placed = went_stopped al v (view t) (view m) u (From c.partner_lane-lane.result F c.loop-partner.partner) U U false (t.settled_fit, t.turns) refl c.loop-partner.invariant.2.1 lasts in
     let ruled = went_stopped al v (view s) (view t) u (Below (Placed al v rule n) p) U U false (s.settled_fit, s.turns) refl c.loop-position.invariant.2 placed in
     let all = went_stopped al v (view r) (view s) u (Below (Ruled al v n) (k + 1)) U U false (r.settled_fit, r.turns) refl c.search.invariant.2 ruled in
     subst (Went al v (view r) u U U) (sym off) all
