@@ -2,7 +2,7 @@
 use Rattle.std.proofs.Common.{◌≡◌, ℕ, ◌+◌, ◌<◌, ◌≤◌, Bool, true, false, ◌==◌, cond, List, [], ◌∷◌, length, None, sym, refl, ap, ◌∙◌, subst, inl, inr, ⊎_elim, arith}
 use Rattle.std.proofs.lemmas.Bool.Decides.{nat_tests}
 use Rattle.standpoint.specs.declared.statement.Statement.{Statement}
-use Rattle.standpoint.specs.Lists.{In, Tells}
+use Rattle.standpoint.specs.Lists.{In}
 use Rattle.standpoint.specs.Algebra.{Algebra}
 use Rattle.standpoint.specs.Rules.{arity_of}
 use Rattle.saturation.specs.declared.places.Position.{Position}
@@ -20,10 +20,6 @@ use Rattle.saturation.proofs.Stepping.{step_long, step_few, value_at}
 use Rattle.saturation.proofs.Walking.{From, within_listed}
 use Rattle.saturation.proofs.Partners.{At, Around, partners, partner_found, last_found}
 use Rattle.saturation.proofs.Searches.{Family, Below, went_as, went_more, went_none}
-
-told : (b : Bool) {P : Type 0} → Tells b P → P → b ≡ true
-told true tells p = refl
-told false tells p = absurd (tells p)
 
 in_paired : (position : Position) (n i : ℕ) → In (paired position n i) n
 in_paired First n i = inl refl
@@ -104,14 +100,14 @@ module _ {G : Type 0} (al : Algebra G) (v : ℕ) where
         went_as al v s t (λ l o. OnLane lane l j × Last i j l o) (λ l o. OnLane lane l j × Last i j l o) (Last i j) (Using n) r (λ l is o b. b) (λ l is o w. last_uses i j l o w)
         (subst (λ (ks : List ℕ). Went al v s t (λ l o. OnLane lane l j × Step al v l rule ks o) (λ l. Step al v l rule ks) r) is x)
 
-    -- the walk along the lane of the last ones has ended: there is none where the partner is not on its own
-    pub went_lasts : (s t : State G) (x y : Statement) (lane : Lane) (on : Bool) (i : ℕ) → n < s.settled → i < s.settled → x ≡ statement_at s (turn_at s n) → y ≡ statement_at s (turn_at s i) → Tells on (Within lane i (settled_at s.rows i)) →
-        Went al v s t (From (when on (last_lane rule position n x y)) (Last i) None) (Using n) true → Went al v s t (λ l o. OnLane lane l i × AroundAt i l o) (Using n) true
-    went_lasts s t x y lane on i in_n in_i is_x is_y tells w =
-        went_as al v s t (From (when on (last_lane rule position n x y)) (Last i) None) (λ l o. OnLane lane l i × AroundAt i l o) (Using n) (Using n) true
+    -- the walk along the lane of the last ones has ended
+    pub went_lasts : (s t : State G) (x y : Statement) (lane : Lane) (i : ℕ) → n < s.settled → i < s.settled → x ≡ statement_at s (turn_at s n) → y ≡ statement_at s (turn_at s i) →
+        Went al v s t (From (last_lane rule position n x y) (Last i) None) (Using n) true → Went al v s t (λ l o. OnLane lane l i × AroundAt i l o) (Using n) true
+    went_lasts s t x y lane i in_n in_i is_x is_y w =
+        went_as al v s t (From (last_lane rule position n x y) (Last i) None) (λ l o. OnLane lane l i × AroundAt i l o) (Using n) (Using n) true
         (λ l is o b.
         let found = last_found al v rule l o n x (λ d. sym (is_x ∙ (is.holds n in_n d).0)) i y (λ d. sym (is_y ∙ (is.holds i in_i d).0)) position b.1.0 b.1.1 in
-        (found.0, subst (λ (c : Bool). OnLane (when c (last_lane rule position n x y)) l found.0) (sym (told on tells (within_listed s l is lane i b.0))) found.1, tt, found.2))
+        (found.0, found.1, tt, found.2))
         (λ l is o u. u)
         w
 

@@ -6,7 +6,6 @@ ghost use Rattle.saturation.specs.Searching.{Went};
 
 use crate::attempt::Inference;
 use crate::joins::{last_lane, partner_lane, takes};
-use crate::lane::Lane;
 use crate::places::Position;
 use crate::rows::NoRow;
 use crate::table::Table;
@@ -41,18 +40,19 @@ impl<'a, G: Copy> Table<'a, G> {
                 let mut partner = self.last_along(&lane);
                 while let Some(i) = partner {
                     let i = i as usize;
-                    let y = self.settled_statement(i);
-                    let met = self.is_along(&lane, i);
-                    let lasts = Lane::when(met, last_lane(rule, position, newest as u32, x, y));
-                    let mut last = self.last_along(&lasts);
-                    while let Some(j) = last {
-                        let j = j as usize;
-                        let places = position.seat(rule, newest, i, j);
-                        outcome = self.attempt_along(&inference, &lasts, j, places);
-                        if outcome.is_err() {
-                            break 'search;
+                    if self.is_along(&lane, i) {
+                        let y = self.settled_statement(i);
+                        let lasts = last_lane(rule, position, newest as u32, x, y);
+                        let mut last = self.last_along(&lasts);
+                        while let Some(j) = last {
+                            let j = j as usize;
+                            let places = position.seat(rule, newest, i, j);
+                            outcome = self.attempt_along(&inference, &lasts, j, places);
+                            if outcome.is_err() {
+                                break 'search;
+                            }
+                            last = self.next_along(&lasts, j);
                         }
-                        last = self.next_along(&lasts, j);
                     }
                     partner = self.next_along(&lane, i);
                 }
