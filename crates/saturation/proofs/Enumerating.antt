@@ -11,8 +11,7 @@ use Rattle.saturation.specs.declared.lane.Lane.{Lane}
 use Rattle.saturation.specs.Sides.{settled_at}
 use Rattle.saturation.specs.Lanes.{Within, when, takes, partner_lane, last_lane}
 use Rattle.saturation.specs.Tables.{State, statement_at, turn_at}
-use Rattle.saturation.specs.declared.places.Places.{Places}
-use Rattle.saturation.specs.Places.{Step, Uses, listed_places}
+use Rattle.saturation.specs.Places.{Step, Uses}
 use Rattle.saturation.specs.Searching.{Went, OnLane, SettledPlaces, paired, arranged, seated}
 use Rattle.saturation.proofs.Lists.{Fit}
 use Rattle.saturation.proofs.Numbering.{nth_position}
@@ -78,6 +77,10 @@ module _ {G : Type 0} (al : Algebra G) (v : ℕ) where
   pub went_off : (s : State G) (lane : Lane) (k : ℕ) (F May : Family G) → (Within lane k (settled_at s.rows k) → ⊥) → Went al v s s (λ l o. OnLane lane l k × F l o) May true
   went_off s lane k F May off = went_none al v s _ May (λ l is o b. off (within_listed s l is lane k b.0))
 
+  -- and what was offered in any case
+  pub went_on : (s t : State G) (lane : Lane) (k : ℕ) (F : Family G) (r : Bool) → Went al v s t F F r → Went al v s t (λ l o. OnLane lane l k × F l o) F r
+  went_on s t lane k F r x = went_as al v s t F (λ l o. OnLane lane l k × F l o) F F r (λ l is o b. b.1) (λ l is o w. w) x
+
   module _ (rule : ℕ) (position : Position) (n : ℕ) where
     -- what is given with n, its partner i and the last one at j
     abbrev pub Last : ℕ → ℕ → Family G
@@ -94,11 +97,8 @@ module _ {G : Type 0} (al : Algebra G) (v : ℕ) where
     last_uses i j l o = step_uses n rule (seated rule position n i j) l o (in_seated rule position n i j)
 
     -- one last premise
-    pub went_along : (s t : State G) (lane : Lane) (i j : ℕ) (r : Bool) (places : Places) → listed_places places ≡ seated rule position n i j →
-        Went al v s t (λ l o. OnLane lane l j × Step al v l rule (listed_places places) o) (λ l. Step al v l rule (listed_places places)) r → Went al v s t (λ l o. OnLane lane l j × Last i j l o) (Using n) r
-    went_along s t lane i j r places is x =
-        went_as al v s t (λ l o. OnLane lane l j × Last i j l o) (λ l o. OnLane lane l j × Last i j l o) (Last i j) (Using n) r (λ l is o b. b) (λ l is o w. last_uses i j l o w)
-        (subst (λ (ks : List ℕ). Went al v s t (λ l o. OnLane lane l j × Step al v l rule ks o) (λ l. Step al v l rule ks) r) is x)
+    pub went_last : (s t : State G) (F : Family G) (i j : ℕ) (r : Bool) → Went al v s t F (Last i j) r → Went al v s t F (Using n) r
+    went_last s t F i j r x = went_as al v s t F F (Last i j) (Using n) r (λ l is o b. b) (λ l is o w. last_uses i j l o w) x
 
     -- the walk along the lane of the last ones has ended
     pub went_lasts : (s t : State G) (x y : Statement) (lane : Lane) (i : ℕ) → n < s.settled → i < s.settled → x ≡ statement_at s (turn_at s n) → y ≡ statement_at s (turn_at s i) →

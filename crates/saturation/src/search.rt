@@ -46,8 +46,9 @@ impl<'a, G: Copy> Table<'a, G> {
                         let mut last = self.last_along(&lasts);
                         while let Some(j) = last {
                             let j = j as usize;
-                            let places = position.seat(rule, newest, i, j);
-                            outcome = self.attempt_along(&inference, &lasts, j, places);
+                            outcome = self.attempt_along(
+                                &inference, &lasts, position, newest, i, j,
+                            );
                             if outcome.is_err() {
                                 break 'search;
                             }

@@ -5,7 +5,7 @@ use Rattle.saturation.specs.Lanes.{track, lane_bucket}
 use Rattle.saturation.specs.declared.table.Table.{Table}
 use Rattle.saturation.specs.Offering.{Grown}
 use Rattle.saturation.specs.Tables.{view, Same}
-use Rattle.saturation.specs.Searching.{Went, OnLane, SettledPlaces}
+use Rattle.saturation.specs.Searching.{Went, OnLane}
 use Rattle.saturation.proofs.Chaining.{link_falls}
 use Rattle.saturation.proofs.Numbering.{nth_rule, nth_number, nth_position}
 use Rattle.saturation.proofs.Offers.{grown_refl, grown_trans}
@@ -13,7 +13,7 @@ use Rattle.saturation.proofs.Lists.{statement_kept}
 use Rattle.saturation.proofs.Sameness.{same_then}
 use Rattle.saturation.proofs.Searches.{Below, went_start, went_more, went_stopped}
 use Rattle.saturation.proofs.Walking.{From, stands_kept, walk_start, walk_next}
-use Rattle.saturation.proofs.Enumerating.{Last, AroundAt, went_off, went_along, went_lasts, seated_settled, Placed, Ruled, Using, went_partners, went_untaken, partners_taken, went_unruled, went_rule, went_all}
+use Rattle.saturation.proofs.Enumerating.{Last, AroundAt, went_off, went_last, went_lasts, Placed, Ruled, Using, went_partners, went_untaken, partners_taken, went_unruled, went_rule, went_all}
 use Rattle.saturation.proofs.table.Table.search.Goals.{then-is_along+in_default-last, else-is_along}
 use Rattle.saturation.proofs.table.Table.search.Goals as goal
 
@@ -54,7 +54,7 @@ attempt_along-outcome-requires g c =
     let in_n : c.args.newest < w.settled = let same_w = c.loop-last.invariant.2.1.grown.settled in let h = c.requires in omega (arith, h, same_s, same_t, same_m, same_w) in
     let in_i = (stands_kept (view m) (view w) c.partner_lane-lane.result c.loop-partner.partner c.in-Some.i (m.settled_fit, m.turns) c.loop-last.invariant.2.1.grown c.in-Some.is c.loop-partner.invariant.2.0).0 in
     let in_j = (stands_kept (view w) (view w) c.last_lane-lasts.result c.loop-last.last c.in-Some-last.j (w.settled_fit, w.turns) (grown_refl (view w)) c.in-Some-last.is c.loop-last.invariant.2.0).0 in
-    (in_j, subst (SettledPlaces w.settled) (sym c.seat-places.ensures) (seated_settled (number_of_rule (nth_rule c.search.rule-index)) (nth_position c.loop-position.position-index) w.settled c.args.newest c.in-Some.i c.in-Some-last.j in_n in_i in_j))
+    (in_n, in_i, in_j)
 
 pub next_along-last-requires : goal.next_along-last-requires
 next_along-last-requires g c =
@@ -83,7 +83,7 @@ loop-last-preserved g c =
     let lane = c.last_lane-lasts.result in
     let on = c.if-is_err.ensures.negation in
     let inv = c.loop-last.invariant in
-    let here = went_along al v rule position n w u lane i j r c.seat-places.result c.seat-places.ensures c.attempt_along-outcome.ensures.state in (
+    let here = went_last al v rule position n w u (λ l o. OnLane lane l j × Last al v rule position n i j l o) i j r c.attempt_along-outcome.ensures.state in (
       on,
       same_then inv.1 c.attempt_along-outcome.ensures.same,
       walk_next al v lane (Last al v rule position n i) (Using al v n) (view m) w u c.loop-last.last j c.next_along-last.result r (m.settled_fit, m.turns) c.in-Some-last.is c.next_along-last.ensures on inv.2 here,
@@ -94,10 +94,10 @@ next_along-partner-requires g c =
     let m = c.loop-partner.self in
     let From_m : Table g.row.G.Denot → Type 0 = λ z. Grown (view m) (view z) in
     let grown : From_m c.if-is_along.self =
-        elim c.if-is_along.branch [
-          | then-is_along+in_default-last w ↦ subst From_m (sym w.self-is) w.loop-last.invariant.2.1.grown
-          | else-is_along w ↦ subst From_m (sym w.self-is) (grown_refl (view m))
-        ] in
+    elim c.if-is_along.branch [
+      | then-is_along+in_default-last w ↦ subst From_m (sym w.self-is) w.loop-last.invariant.2.1.grown
+      | else-is_along w ↦ subst From_m (sym w.self-is) (grown_refl (view m))
+    ] in
     stands_kept (view m) (view c.if-is_along.self) c.partner_lane-lane.result c.loop-partner.partner c.in-Some.i (m.settled_fit, m.turns) grown c.in-Some.is c.loop-partner.invariant.2.0
 
 pub loop-partner-smaller : goal.loop-partner-smaller
@@ -130,15 +130,15 @@ loop-partner-preserved g c =
     let is_x = c.settled_statement-x.ensures ∙ sym (statement_kept (view r) (view m) (r.settled_fit, r.turns) grown n c.requires) in
     let Passed : Table g.row.G.Denot → Type 0 = λ z. Same m z × Went al v (view m) (view z) (λ l o. OnLane lane l i × F i l o) U true in
     let passed : (is_ok c.if-is_along.outcome ≡ true) × Passed u =
-        elim c.if-is_along.branch [
-          | then-is_along+in_default-last w ↦
-            let z = w.loop-last.self in
-            let walked = subst (λ (at : Option ℕ). Went al v (view m) (view z) (From w.last_lane-lasts.result L at) U true) w.in_default-last.is w.loop-last.invariant.2.1 in
-            let lasts = subst (λ (k : Lane). Went al v (view m) (view z) (From k L None) U true) w.last_lane-lasts.ensures walked in
-            let here = went_lasts al v rule position n (view m) (view z) x w.settled_statement-y.result lane i (omega arith) in_i is_x w.settled_statement-y.ensures lasts in
-            (ap is_ok w.outcome-is ∙ w.loop-last.invariant.0, subst Passed (sym w.self-is) (w.loop-last.invariant.1, here))
-          | else-is_along w ↦ (ap is_ok w.outcome-is ∙ inv.0, subst Passed (sym w.self-is) ((refl, refl, refl), went_off al v (view m) lane i (F i) U w.if-is_along.ensures))
-        ] in (
+    elim c.if-is_along.branch [
+      | then-is_along+in_default-last w ↦
+          let z = w.loop-last.self in
+          let walked = subst (λ (at : Option ℕ). Went al v (view m) (view z) (From w.last_lane-lasts.result L at) U true) w.in_default-last.is w.loop-last.invariant.2.1 in
+          let lasts = subst (λ (k : Lane). Went al v (view m) (view z) (From k L None) U true) w.last_lane-lasts.ensures walked in
+          let here = went_lasts al v rule position n (view m) (view z) x w.settled_statement-y.result lane i (omega arith) in_i is_x w.settled_statement-y.ensures lasts in
+          (ap is_ok w.outcome-is ∙ w.loop-last.invariant.0, subst Passed (sym w.self-is) (w.loop-last.invariant.1, here))
+      | else-is_along w ↦ (ap is_ok w.outcome-is ∙ inv.0, subst Passed (sym w.self-is) ((refl, refl, refl), went_off al v (view m) lane i (F i) U w.if-is_along.ensures))
+    ] in (
       passed.0,
       same_then inv.1 passed.1.0,
       walk_next al v lane F U (view t) (view m) (view u) c.loop-partner.partner i c.next_along-partner.result true (t.settled_fit, t.turns) c.in-Some.is c.next_along-partner.ensures refl inv.2 passed.1.1,
@@ -234,7 +234,7 @@ returns-then-is_err-clause-state g c =
     let lane = c.last_lane-lasts.result in
     let out = is_ok c.attempt_along-outcome.result in
     let off = c.if-is_err.ensures.negation in
-    let here = went_along al v rule (nth_position p) n w u lane i j out c.seat-places.result c.seat-places.ensures c.attempt_along-outcome.ensures.state in
+    let here = went_last al v rule (nth_position p) n w u (λ l o. OnLane lane l j × L j l o) i j out c.attempt_along-outcome.ensures.state in
     let lasts = went_stopped al v (view m) w u (From lane L c.loop-last.last) (λ l o. OnLane lane l j × L j l o) U out (m.settled_fit, m.turns) off c.loop-last.invariant.2.1 here in
     let placed = went_stopped al v (view t) (view m) u (From c.partner_lane-lane.result F c.loop-partner.partner) U U false (t.settled_fit, t.turns) refl c.loop-partner.invariant.2.1 lasts in
     let ruled = went_stopped al v (view s) (view t) u (Below (Placed al v rule n) p) U U false (s.settled_fit, s.turns) refl c.loop-position.invariant.2 placed in
