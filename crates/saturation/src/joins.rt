@@ -82,6 +82,7 @@ fn third_shape(rule: Rule) -> u8
 }
 
 // Whether a rule's premise at a position may have this shape: mostly not, and this is told fast.
+#[inline(always)]
 pub(crate) fn takes(rule: Rule, position: Position, shape: u8) -> bool
     ensures { result ≡ takes (number_of_rule rule) position shape }
 {
@@ -226,7 +227,6 @@ pub(crate) fn partner_lane(rule: Rule, position: Position, newest: u32, x: State
 }
 
 // Where the last premises are, beside the newest x and its partner y.
-#[inline(always)]
 pub(crate) fn last_lane(
     rule: Rule,
     position: Position,

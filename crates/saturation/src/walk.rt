@@ -12,7 +12,6 @@ use standpoint::shape::NESTED_INCLUSION;
 
 impl<'a, G: Copy> Table<'a, G> {
     // Where a walk back along a lane starts: at the last settled place of its chain, if there is one.
-    #[inline(always)]
     pub(crate) fn last_along(&self, lane: &Lane) -> Option<u32>
         requires { 0 < length self.now.rows.now }
         ensures { result ≡ last_in (track self.now.rows.now lane.now) (lane_bucket self.now.rows.now lane.now) self.now.settled }
