@@ -2,17 +2,16 @@
 use Rattle.std.proofs.Common.{◌≡◌, ℕ, ◌+◌, ◌<◌, ◌≤◌, Bool, true, false, ◌==◌, cond, List, [], ◌∷◌, length, None, sym, refl, ap, ◌∙◌, subst, inl, inr, ⊎_elim, arith}
 use Rattle.std.proofs.lemmas.Bool.Decides.{nat_tests}
 use Rattle.standpoint.specs.declared.statement.Statement.{Statement}
-use Rattle.standpoint.specs.Lists.{In, Tells}
+use Rattle.standpoint.specs.Lists.{In}
 use Rattle.standpoint.specs.Algebra.{Algebra}
 use Rattle.standpoint.specs.Rules.{arity_of}
 use Rattle.saturation.specs.declared.places.Position.{Position}
 use Rattle.saturation.specs.declared.places.Position.TheVariants.{First, Second, Third}
 use Rattle.saturation.specs.declared.lane.Lane.{Lane}
 use Rattle.saturation.specs.Sides.{settled_at}
-use Rattle.saturation.specs.Lanes.{Within, when, takes, beside, last_lane}
+use Rattle.saturation.specs.Lanes.{Within, when, takes, partner_lane, last_lane}
 use Rattle.saturation.specs.Tables.{State, statement_at, turn_at}
-use Rattle.saturation.specs.declared.places.Places.{Places}
-use Rattle.saturation.specs.Places.{Step, Uses, listed_places}
+use Rattle.saturation.specs.Places.{Step, Uses}
 use Rattle.saturation.specs.Searching.{Went, OnLane, SettledPlaces, paired, arranged, seated}
 use Rattle.saturation.proofs.Lists.{Fit}
 use Rattle.saturation.proofs.Numbering.{nth_position}
@@ -20,10 +19,6 @@ use Rattle.saturation.proofs.Stepping.{step_long, step_few, value_at}
 use Rattle.saturation.proofs.Walking.{From, within_listed}
 use Rattle.saturation.proofs.Partners.{At, Around, partners, partner_found, last_found}
 use Rattle.saturation.proofs.Searches.{Family, Below, went_as, went_more, went_none}
-
-told : (b : Bool) {P : Type 0} → Tells b P → P → b ≡ true
-told true tells p = refl
-told false tells p = absurd (tells p)
 
 in_paired : (position : Position) (n i : ℕ) → In (paired position n i) n
 in_paired First n i = inl refl
@@ -42,18 +37,18 @@ in_arranged rule Third n i j = inr (inr (inl refl))
 in_seated : (rule : ℕ) (position : Position) (n i j : ℕ) → In (seated rule position n i j) n
 in_seated rule position n i j = by_count (arity_of rule == 1) (arity_of rule == 2)
   where
-    by_count : (one two : Bool) → In (cond one (n ∷ []) (cond two (paired position n i) (arranged rule position n i j))) n
+    by_count : (one two : Bool) → In (cond one (n ∷ []) (cond two (paired position n j) (arranged rule position n i j))) n
     by_count true two = inl refl
-    by_count false true = in_paired position n i
+    by_count false true = in_paired position n j
     by_count false false = in_arranged rule position n i j
 
 pub seated_settled : (rule : ℕ) (position : Position) (m n i j : ℕ) → n < m → i < m → j < m → SettledPlaces m (seated rule position n i j)
 seated_settled rule position m n i j in_n in_i in_j = by_count (arity_of rule == 1) (arity_of rule == 2)
   where
-    two : (p : Position) → SettledPlaces m (paired p n i)
-    two First = (in_n, (in_i, tt))
-    two Second = (in_i, (in_n, tt))
-    two Third = (in_i, (in_n, tt))
+    two : (p : Position) → SettledPlaces m (paired p n j)
+    two First = (in_n, (in_j, tt))
+    two Second = (in_j, (in_n, tt))
+    two Third = (in_j, (in_n, tt))
 
     middle : (b : Bool) → SettledPlaces m (cond b (i ∷ n ∷ j ∷ []) (j ∷ n ∷ i ∷ []))
     middle true = (in_i, (in_n, (in_j, tt)))
@@ -64,7 +59,7 @@ seated_settled rule position m n i j in_n in_i in_j = by_count (arity_of rule ==
     three Second = middle (rule == 14)
     three Third = (in_i, (in_j, (in_n, tt)))
 
-    by_count : (one more : Bool) → SettledPlaces m (cond one (n ∷ []) (cond more (paired position n i) (arranged rule position n i j)))
+    by_count : (one more : Bool) → SettledPlaces m (cond one (n ∷ []) (cond more (paired position n j) (arranged rule position n i j)))
     by_count true more = (in_n, tt)
     by_count false true = two position
     by_count false false = three position
@@ -82,6 +77,10 @@ module _ {G : Type 0} (al : Algebra G) (v : ℕ) where
   pub went_off : (s : State G) (lane : Lane) (k : ℕ) (F May : Family G) → (Within lane k (settled_at s.rows k) → ⊥) → Went al v s s (λ l o. OnLane lane l k × F l o) May true
   went_off s lane k F May off = went_none al v s _ May (λ l is o b. off (within_listed s l is lane k b.0))
 
+  -- and what was offered in any case
+  pub went_on : (s t : State G) (lane : Lane) (k : ℕ) (F : Family G) (r : Bool) → Went al v s t F F r → Went al v s t (λ l o. OnLane lane l k × F l o) F r
+  went_on s t lane k F r x = went_as al v s t F (λ l o. OnLane lane l k × F l o) F F r (λ l is o b. b.1) (λ l is o w. w) x
+
   module _ (rule : ℕ) (position : Position) (n : ℕ) where
     -- what is given with n, its partner i and the last one at j
     abbrev pub Last : ℕ → ℕ → Family G
@@ -98,21 +97,17 @@ module _ {G : Type 0} (al : Algebra G) (v : ℕ) where
     last_uses i j l o = step_uses n rule (seated rule position n i j) l o (in_seated rule position n i j)
 
     -- one last premise
-    pub went_along : (s t : State G) (lane : Lane) (i j : ℕ) (r : Bool) (places : Places) → listed_places places ≡ seated rule position n i j →
-        Went al v s t (λ l o. OnLane lane l j × Step al v l rule (listed_places places) o) (λ l. Step al v l rule (listed_places places)) r → Went al v s t (λ l o. OnLane lane l j × Last i j l o) (Using n) r
-    went_along s t lane i j r places is x =
-        went_as al v s t (λ l o. OnLane lane l j × Last i j l o) (λ l o. OnLane lane l j × Last i j l o) (Last i j) (Using n) r (λ l is o b. b) (λ l is o w. last_uses i j l o w)
-        (subst (λ (ks : List ℕ). Went al v s t (λ l o. OnLane lane l j × Step al v l rule ks o) (λ l. Step al v l rule ks) r) is x)
+    pub went_last : (s t : State G) (F : Family G) (i j : ℕ) (r : Bool) → Went al v s t F (Last i j) r → Went al v s t F (Using n) r
+    went_last s t F i j r x = went_as al v s t F F (Last i j) (Using n) r (λ l is o b. b) (λ l is o w. last_uses i j l o w) x
 
-    -- the walk along the lane of the last ones has ended: there is none where the partner is not on its own
-    pub went_lasts : (s t : State G) (x y : Statement) (lane : Lane) (on : Bool) (i : ℕ) → n < s.settled → i < s.settled → x ≡ statement_at s (turn_at s n) → y ≡ statement_at s (turn_at s i) → Tells on (Within lane i (settled_at s.rows i)) →
-        Went al v s t (From (when on (last_lane rule position n x y)) (Last i) None) (Using n) true → Went al v s t (λ l o. OnLane lane l i × AroundAt i l o) (Using n) true
-    went_lasts s t x y lane on i in_n in_i is_x is_y tells w =
-        went_as al v s t (From (when on (last_lane rule position n x y)) (Last i) None) (λ l o. OnLane lane l i × AroundAt i l o) (Using n) (Using n) true
+    -- the walk along the lane of the last ones has ended
+    pub went_lasts : (s t : State G) (x y : Statement) (lane : Lane) (i : ℕ) → n < s.settled → i < s.settled → x ≡ statement_at s (turn_at s n) → y ≡ statement_at s (turn_at s i) →
+        Went al v s t (From (last_lane rule position n x y) (Last i) None) (Using n) true → Went al v s t (λ l o. OnLane lane l i × AroundAt i l o) (Using n) true
+    went_lasts s t x y lane i in_n in_i is_x is_y w =
+        went_as al v s t (From (last_lane rule position n x y) (Last i) None) (λ l o. OnLane lane l i × AroundAt i l o) (Using n) (Using n) true
         (λ l is o b.
-        let long = is.long in
-        let found = last_found al v rule l o n x (λ d. sym (is_x ∙ (is.holds n in_n d).0)) i y (λ d. sym (is_y ∙ (is.holds i in_i d).0)) position b.1.0 (omega arith) b.1.1 in
-        (found.0, subst (λ (c : Bool). OnLane (when c (last_lane rule position n x y)) l found.0) (sym (told on tells (within_listed s l is lane i b.0))) found.1, tt, found.2))
+        let found = last_found al v rule l o n x (λ d. sym (is_x ∙ (is.holds n in_n d).0)) i y (λ d. sym (is_y ∙ (is.holds i in_i d).0)) position b.1.0 b.1.1 in
+        (found.0, found.1, tt, found.2))
         (λ l is o u. u)
         w
 
@@ -121,11 +116,11 @@ module _ {G : Type 0} (al : Algebra G) (v : ℕ) where
     went_untaken s x in_n is_x off =
         went_none al v s Beside (Using n) (λ l is o b.
         let p = partner_found al v rule l o n x (λ d. sym (is_x ∙ (is.holds n in_n d).0)) position b.0 b.1 b.2 in
-        let on = subst (λ (taken : Bool). OnLane (when taken (beside rule position n x)) l p.0) off p.1 in
+        let on = subst (λ (taken : Bool). OnLane (when taken (partner_lane rule position n x)) l p.0) off p.1 in
         on.1 (value_at l p.0 on.0).0)
 
-    pub partners_taken : (x : Statement) → takes rule position x.shape ≡ true → beside rule position n x ≡ partners rule position n x
-    partners_taken x on = ap (λ (taken : Bool). when taken (beside rule position n x)) (sym on)
+    pub partners_taken : (x : Statement) → takes rule position x.shape ≡ true → partner_lane rule position n x ≡ partners rule position n x
+    partners_taken x on = ap (λ (taken : Bool). when taken (partner_lane rule position n x)) (sym on)
 
     -- the walk along the lane of the partners has ended
     pub went_partners : (s t : State G) (x : Statement) → n < s.settled → x ≡ statement_at s (turn_at s n) →

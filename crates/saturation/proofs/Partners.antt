@@ -10,14 +10,22 @@ use Rattle.saturation.specs.declared.places.Position.{Position}
 use Rattle.saturation.specs.declared.places.Position.TheVariants.{First, Second, Third}
 use Rattle.saturation.specs.declared.lane.Lane.{Lane}
 use Rattle.saturation.specs.declared.lane.Lane.TheVariants.{Alone}
-use Rattle.saturation.specs.Lanes.{when, takes, beside, last_lane, Within}
+use Rattle.saturation.specs.Lanes.{when, takes, beside, last_of_three, partner_lane, last_lane, Within}
 use Rattle.saturation.specs.Places.{Step, StandAt, statements_of}
 use Rattle.saturation.specs.Searching.{OnLane, paired, arranged, seated}
 use Rattle.saturation.proofs.Stepping.{step_long, step_few}
 
 -- the partners of a premise x, settled at n
 abbrev pub partners : ℕ → Position → ℕ → Statement → Lane
-partners rule position n x = when (takes rule position x.shape) (beside rule position n x)
+partners rule position n x = when (takes rule position x.shape) (partner_lane rule position n x)
+
+-- the others beside x
+abbrev others : ℕ → Position → ℕ → Statement → Lane
+others rule position n x = when (takes rule position x.shape) (beside rule position n x)
+
+when_on : (b : Bool) (lane : Lane) (k : ℕ) (y : Statement) → Within (when b lane) k y → (b ≡ true) × Within lane k y
+when_on true lane k y within = (refl, within)
+when_on false lane k y within = absurd within
 
 -- n stands at this position among some places
 abbrev pub At : Position → List ℕ → ℕ → Type 0
@@ -31,8 +39,8 @@ At Third (i ∷ []) n = ⊥
 At Third (i ∷ j ∷ []) n = ⊥
 At Third (i ∷ j ∷ k ∷ ks) n = k ≡ n
 
--- the only premise is its own partner
-one_within : {v rule : ℕ} {p o : Statement} (n : ℕ) → Rule v rule (p ∷ []) o → Within (partners rule First n p) n p
+-- the only premise is beside itself
+one_within : {v rule : ℕ} {p o : Statement} (n : ℕ) → Rule v rule (p ∷ []) o → Within (others rule First n p) n p
 one_within n necessary_here = refl
 one_within n of_all_things = refl
 one_within n existential_empty = refl
@@ -40,8 +48,8 @@ one_within n necessary_empty = refl
 one_within n possible_empty = refl
 one_within n (individual_empty a) = refl
 
--- each of two premises is among the partners of the other
-two_within : {v rule : ℕ} {p q o : Statement} (i j : ℕ) → Rule v rule (p ∷ q ∷ []) o → Within (partners rule First i p) j q × Within (partners rule Second j q) i p
+-- each of two premises is beside the other
+two_within : {v rule : ℕ} {p q o : Statement} (i j : ℕ) → Rule v rule (p ∷ q ∷ []) o → Within (others rule First i p) j q × Within (others rule Second j q) i p
 two_within i j role_transitive = (refl, refl)
 two_within i j sharper_transitive = (refl, refl)
 two_within i j (lowered low high) = (refl, refl)
@@ -80,12 +88,12 @@ length_arranged rule Third n i j = refl
 -- seated places, by how many premises the rule has
 module _ (rule : ℕ) (position : Position) (n i j : ℕ) where
   abbrev Seats : ℕ → List ℕ
-  Seats count = cond (count == 1) (n ∷ []) (cond (count == 2) (paired position n i) (arranged rule position n i j))
+  Seats count = cond (count == 1) (n ∷ []) (cond (count == 2) (paired position n j) (arranged rule position n i j))
 
   seated_one : arity_of rule ≡ 1 → seated rule position n i j ≡ n ∷ []
   seated_one one = ap Seats one
 
-  seated_two : arity_of rule ≡ 2 → seated rule position n i j ≡ paired position n i
+  seated_two : arity_of rule ≡ 2 → seated rule position n i j ≡ paired position n j
   seated_two two = ap Seats two
 
   seated_three : arity_of rule ≡ 3 → seated rule position n i j ≡ arranged rule position n i j
@@ -94,37 +102,37 @@ module _ (rule : ℕ) (position : Position) (n i j : ℕ) where
   seated_more : arity_of rule ≢ 1 → arity_of rule ≢ 2 → seated rule position n i j ≡ arranged rule position n i j
   seated_more several more = grind (arith, nat_tests)
 
-four_off : {X : Type 0} (a b c d : Bool) (w x y z e : X) → a ≡ false → b ≡ false → c ≡ false → d ≡ false → cond a w (cond b x (cond c y (cond d z e))) ≡ e
-four_off a b c d w x y z e p q r s = simp (p, q, r, s) refl
+-- of fewer than three premises the newest is its own partner, and the last one is beside it
+module _ (rule : ℕ) (position : Position) (n : ℕ) (x : Statement) (few : arity_of rule ≢ 3) where
+  not_three : (arity_of rule == 3) ≡ false
+  not_three = ⊎_elim (λ t. absurd (few t.1)) (λ f. f.0) (eqb_tells (arity_of rule) 3)
 
--- of fewer than three premises the newest stands for the last
-few_last : (rule : ℕ) (position : Position) (n : ℕ) (x y : Statement) → arity_of rule ≢ 3 → last_lane rule position n x y ≡ Alone n
-few_last rule position n x y few = at position
-  where
-    other : (k : ℕ) → arity_of k ≡ 3 → (rule == k) ≡ false
-    other k three = ⊎_elim (λ t. absurd (few (ap arity_of t.1 ∙ three))) (λ f. f.0) (eqb_tells rule k)
+  few_partner : partner_lane rule position n x ≡ Alone n
+  few_partner = ap (λ (b : Bool). cond b (beside rule position n x) (Alone n)) not_three
 
-    at : (p : Position) → last_lane rule p n x y ≡ Alone n
-    at First = four_off _ _ _ _ _ _ _ _ _ (other 3 refl) (other 14 refl) (other 15 refl) (other 17 refl)
-    at Second = four_off _ _ _ _ _ _ _ _ _ (other 3 refl) (other 14 refl) (other 15 refl) (other 17 refl)
-    at Third = four_off _ _ _ _ _ _ _ _ _ (other 3 refl) (other 14 refl) (other 15 refl) (other 17 refl)
+  few_last : (y : Statement) → last_lane rule position n x y ≡ beside rule position n x
+  few_last y = ap (λ (b : Bool). cond b (last_of_three rule position x y) (beside rule position n x)) not_three
 
 module _ {G : Type 0} (al : Algebra G) (v rule : ℕ) (l : List (Statement × G)) (o : Statement × G) where
+  -- what the rule gives at places of which n is at this position
+  abbrev GivenAt : Position → ℕ → List ℕ → Type 0
+  GivenAt position n places = At position places n × Step al v l rule places o
+
   -- what is given with n at this position, its partner i, and some last one
   abbrev pub Around : Position → ℕ → ℕ → Type 0
-  Around position n i = (j : ℕ) × Step al v l rule (seated rule position n i j) o
+  Around position n i = (j : ℕ) × GivenAt position n (seated rule position n i j)
 
-  with_places : (ks js : List ℕ) → js ≡ ks → Step al v l rule ks o → Step al v l rule js o
-  with_places ks js e a = subst (λ (ps : List ℕ). Step al v l rule ps o) (sym e) a
+  at_places : (position : Position) (n : ℕ) (ks js : List ℕ) → js ≡ ks → GivenAt position n ks → GivenAt position n js
+  at_places position n ks js e a = subst (GivenAt position n) (sym e) a
 
-  around_one : (position : Position) (n i : ℕ) → Step al v l rule (n ∷ []) o → Around position n i
-  around_one position n i a = (n, with_places _ _ (seated_one rule position n i n (sym (step_long al v l rule _ o a))) a)
+  around_one : (position : Position) (n i : ℕ) → GivenAt position n (n ∷ []) → Around position n i
+  around_one position n i a = (n, at_places position n _ _ (seated_one rule position n i n (sym (step_long al v l rule _ o a.1))) a)
 
-  around_two : (position : Position) (n i : ℕ) → length (paired position n i) ≡ 2 → Step al v l rule (paired position n i) o → Around position n i
-  around_two position n i long a = (n, with_places _ _ (seated_two rule position n i n (sym (step_long al v l rule _ o a) ∙ long)) a)
+  around_two : (position : Position) (n i j : ℕ) → length (paired position n j) ≡ 2 → GivenAt position n (paired position n j) → Around position n i
+  around_two position n i j long a = (j, at_places position n _ _ (seated_two rule position n i j (sym (step_long al v l rule _ o a.1) ∙ long)) a)
 
-  around_three : (position : Position) (n i j : ℕ) → Step al v l rule (arranged rule position n i j) o → Around position n i
-  around_three position n i j a = (j, with_places _ _ (seated_three rule position n i j (sym (step_long al v l rule _ o a) ∙ length_arranged rule position n i j)) a)
+  around_three : (position : Position) (n i j : ℕ) → GivenAt position n (arranged rule position n i j) → Around position n i
+  around_three position n i j a = (j, at_places position n _ _ (seated_three rule position n i j (sym (step_long al v l rule _ o a.1) ∙ length_arranged rule position n i j)) a)
 
   -- the statement settled at k
   abbrev pub Named : ℕ → Statement → Type 0
@@ -179,12 +187,23 @@ module _ {G : Type 0} (al : Algebra G) (v rule : ℕ) (l : List (Statement × G)
     abbrev Found : Position → Type 0
     Found position = (i : ℕ) × OnLane (partners rule position n x) l i × Around position n i
 
-    found_alone : Step al v l rule (n ∷ []) o → Found First
-    found_alone a = go a.premises a.stand a.gives
+    few_found : (position : Position) (p : Statement × G) → StandsAt l n p → takes rule position p.0.shape ≡ true → arity_of rule ≢ 3 → OnLane (partners rule position n x) l n
+    few_found position p at taken few =
+        let here = subst (λ (y : Statement). takes rule position y.shape ≡ true) (named_is n p x at named) taken in
+        subst (λ (lane : Lane). OnLane lane l n) (sym (ap (λ (b : Bool). when b (partner_lane rule position n x)) here ∙ few_partner rule position n x few)) (at.0, λ d. refl)
+
+    record OneAt : Type 0 where
+      pub p : Statement × G
+      pub at_p : StandsAt l n p
+      pub taken : takes rule First p.0.shape ≡ true
+      pub within : Within (beside rule First n p.0) n p.0
+
+    one_at : Step al v l rule (n ∷ []) o → OneAt
+    one_at a = go a.premises a.stand a.gives
       where
-        go : (ps : List (Statement × G)) → StandAt l (n ∷ []) ps → Rule v rule (statements_of ps) o.0 → Found First
+        go : (ps : List (Statement × G)) → StandAt l (n ∷ []) ps → Rule v rule (statements_of ps) o.0 → OneAt
         go [] s gives = absurd s
-        go (p ∷ []) s gives = (n, on_lane (partners rule First n x) n p s.0 (subst (λ (y : Statement). Within (partners rule First n y) n p.0) (named_is n p x s.0 named) (one_within n gives)), around_one First n n a)
+        go (p ∷ []) s gives = let w = when_on (takes rule First p.0.shape) (beside rule First n p.0) n p.0 (one_within n gives) in record { p = p; at_p = s.0; taken = w.0; within = w.1 }
         go (p ∷ q ∷ ps) s gives = absurd s.1
 
     found_second : (b : Bool) → (rule == 14) ≡ b → (i k : ℕ) → Step al v l rule (i ∷ n ∷ k ∷ []) o → Found Second
@@ -193,41 +212,66 @@ module _ {G : Type 0} (al : Algebra G) (v rule : ℕ) (l : List (Statement × G)
         let w = subst (λ (c : Bool). Within (partners rule Second n t.q.0) (cond c i k) (cond c t.p.0 t.r.0)) e (three_within i n k t.gives).second.0 in (
           i,
           on_lane (partners rule Second n x) i t.p t.at_p (subst (λ (y : Statement). Within (partners rule Second n y) i t.p.0) (named_is n t.q x t.at_q named) w),
-          around_three Second n i k (subst (λ (c : Bool). Step al v l rule (Middle c n i k) o) (sym e) a),
+          around_three Second n i k (subst (λ (c : Bool). GivenAt Second n (Middle c n i k)) (sym e) (refl, a)),
         )
     found_second false e i k a =
         let t = three_at i n k a in
         let w = subst (λ (c : Bool). Within (partners rule Second n t.q.0) (cond c i k) (cond c t.p.0 t.r.0)) e (three_within i n k t.gives).second.0 in (
           k,
           on_lane (partners rule Second n x) k t.r t.at_r (subst (λ (y : Statement). Within (partners rule Second n y) k t.r.0) (named_is n t.q x t.at_q named) w),
-          around_three Second n k i (subst (λ (c : Bool). Step al v l rule (Middle c n k i) o) (sym e) a),
+          around_three Second n k i (subst (λ (c : Bool). GivenAt Second n (Middle c n k i)) (sym e) (refl, a)),
         )
+
+    few_by : (places : List ℕ) → Step al v l rule places o → length places < 3 → arity_of rule ≢ 3
+    few_by places a short three = let long = step_long al v l rule places o a in let z : ⊥ = omega arith in z
 
     -- whatever a rule gives with n at a position, it gives with a partner on the lane
     pub partner_found : (position : Position) (places : List ℕ) → At position places n → Step al v l rule places o → Found position
     partner_found position [] at a = absurd (let few = (step_few al v l rule [] o a).0 in let z : ⊥ = omega arith in z)
-    partner_found First (i ∷ []) at a = found_alone (subst (λ (k : ℕ). Step al v l rule (k ∷ []) o) at a)
+    partner_found First (i ∷ []) at a =
+        let b = subst (λ (k : ℕ). Step al v l rule (k ∷ []) o) at a in
+        let t = one_at b in
+        (n, few_found First t.p t.at_p t.taken (few_by (n ∷ []) b (omega arith)), around_one First n n (refl, b))
     partner_found Second (i ∷ []) at a = absurd at
     partner_found Third (i ∷ []) at a = absurd at
     partner_found First (i ∷ j ∷ []) at a =
         let b = subst (λ (k : ℕ). Step al v l rule (k ∷ j ∷ []) o) at a in
         let t = two_at n j b in
-        (j, on_lane (partners rule First n x) j t.q t.at_q (subst (λ (y : Statement). Within (partners rule First n y) j t.q.0) (named_is n t.p x t.at_p named) (two_within n j t.gives).0), around_two First n j refl b)
+        let w = when_on (takes rule First t.p.0.shape) (beside rule First n t.p.0) j t.q.0 (two_within n j t.gives).0 in
+        (n, few_found First t.p t.at_p w.0 (few_by (n ∷ j ∷ []) b (omega arith)), around_two First n n j refl (refl, b))
     partner_found Second (i ∷ j ∷ []) at a =
         let b = subst (λ (k : ℕ). Step al v l rule (i ∷ k ∷ []) o) at a in
         let t = two_at i n b in
-        (i, on_lane (partners rule Second n x) i t.p t.at_p (subst (λ (y : Statement). Within (partners rule Second n y) i t.p.0) (named_is n t.q x t.at_q named) (two_within i n t.gives).1), around_two Second n i refl b)
+        let w = when_on (takes rule Second t.q.0.shape) (beside rule Second n t.q.0) i t.p.0 (two_within i n t.gives).1 in
+        (n, few_found Second t.q t.at_q w.0 (few_by (i ∷ n ∷ []) b (omega arith)), around_two Second n n i refl (refl, b))
     partner_found Third (i ∷ j ∷ []) at a = absurd at
     partner_found First (i ∷ j ∷ k ∷ []) at a =
         let b = subst (λ (m : ℕ). Step al v l rule (m ∷ j ∷ k ∷ []) o) at a in
         let t = three_at n j k b in
-        (k, on_lane (partners rule First n x) k t.r t.at_r (subst (λ (y : Statement). Within (partners rule First n y) k t.r.0) (named_is n t.p x t.at_p named) (three_within n j k t.gives).first.0), around_three First n k j b)
+        (k, on_lane (partners rule First n x) k t.r t.at_r (subst (λ (y : Statement). Within (partners rule First n y) k t.r.0) (named_is n t.p x t.at_p named) (three_within n j k t.gives).first.0), around_three First n k j (refl, b))
     partner_found Second (i ∷ j ∷ k ∷ []) at a = found_second (rule == 14) refl i k (subst (λ (m : ℕ). Step al v l rule (i ∷ m ∷ k ∷ []) o) at a)
     partner_found Third (i ∷ j ∷ k ∷ []) at a =
         let b = subst (λ (m : ℕ). Step al v l rule (i ∷ j ∷ m ∷ []) o) at a in
         let t = three_at i j n b in
-        (i, on_lane (partners rule Third n x) i t.p t.at_p (subst (λ (y : Statement). Within (partners rule Third n y) i t.p.0) (named_is n t.r x t.at_r named) (three_within i j n t.gives).third.0), around_three Third n i j b)
+        (i, on_lane (partners rule Third n x) i t.p t.at_p (subst (λ (y : Statement). Within (partners rule Third n y) i t.p.0) (named_is n t.r x t.at_r named) (three_within i j n t.gives).third.0), around_three Third n i j (refl, b))
     partner_found position (i ∷ j ∷ k ∷ m ∷ ks) at a = absurd (let few = (step_few al v l rule (i ∷ j ∷ k ∷ m ∷ ks) o a).1 in let z : ⊥ = omega arith in z)
+
+    -- of fewer than three premises the last one is beside n
+    last_one : (position : Position) → GivenAt position n (n ∷ []) → OnLane (beside rule position n x) l n
+    last_one First a = let t = one_at a.1 in on_lane (beside rule First n x) n t.p t.at_p (subst (λ (y : Statement). Within (beside rule First n y) n t.p.0) (named_is n t.p x t.at_p named) t.within)
+    last_one Second a = absurd a.0
+    last_one Third a = absurd a.0
+
+    last_two : (position : Position) (j : ℕ) → GivenAt position n (paired position n j) → OnLane (beside rule position n x) l j
+    last_two First j a =
+        let t = two_at n j a.1 in
+        let w = when_on (takes rule First t.p.0.shape) (beside rule First n t.p.0) j t.q.0 (two_within n j t.gives).0 in
+        on_lane (beside rule First n x) j t.q t.at_q (subst (λ (y : Statement). Within (beside rule First n y) j t.q.0) (named_is n t.p x t.at_p named) w.1)
+    last_two Second j a =
+        let t = two_at j n a.1 in
+        let w = when_on (takes rule Second t.q.0.shape) (beside rule Second n t.q.0) j t.p.0 (two_within j n t.gives).1 in
+        on_lane (beside rule Second n x) j t.p t.at_p (subst (λ (y : Statement). Within (beside rule Second n y) j t.p.0) (named_is n t.q x t.at_q named) w.1)
+    last_two Third j a = absurd a.0
 
     module _ (i : ℕ) (y : Statement) (partner : Named i y) where
       last_of : (position : Position) (j : ℕ) (p r q : Statement) → p ≡ x → r ≡ y → Within (last_lane rule position n p r) j q → Within (last_lane rule position n x y) j q
@@ -253,18 +297,18 @@ module _ {G : Type 0} (al : Algebra G) (v rule : ℕ) (l : List (Statement × G)
           on_lane (last_lane rule Third n x y) j t.q t.at_q (last_of Third j t.r.0 t.p.0 t.q.0 (named_is n t.r x t.at_r named) (named_is i t.p y t.at_p partner) (three_within i j n t.gives).third.1)
 
       -- and with a last one on its lane
-      pub last_found : (position : Position) (j : ℕ) → n < length l → Step al v l rule (seated rule position n i j) o → (k : ℕ) × OnLane (last_lane rule position n x y) l k × Step al v l rule (seated rule position n i k) o
-      last_found position j in_n a =
+      pub last_found : (position : Position) (j : ℕ) → GivenAt position n (seated rule position n i j) → (k : ℕ) × OnLane (last_lane rule position n x y) l k × Step al v l rule (seated rule position n i k) o
+      last_found position j a =
           ⊎_elim
-          (λ t. (n, alone (λ three. let one = t.1 in omega arith), with_places _ _ (seated_one rule position n i n t.1) (moved (seated_one rule position n i j t.1))))
+          (λ t. let b = moved (seated_one rule position n i j t.1) in (n, near n (λ three. let one = t.1 in omega arith) (last_one position b), (at_places position n _ _ (seated_one rule position n i n t.1) b).1))
           (λ several. ⊎_elim
-          (λ t. (n, alone (λ three. let two = t.1 in omega arith), with_places _ _ (seated_two rule position n i n t.1) (moved (seated_two rule position n i j t.1))))
-          (λ more. (j, last_third position j (moved (seated_more rule position n i j several.1 more.1)), a))
+          (λ t. (j, near j (λ three. let two = t.1 in omega arith) (last_two position j (moved (seated_two rule position n i j t.1))), a.1))
+          (λ more. (j, last_third position j (moved (seated_more rule position n i j several.1 more.1)).1, a.1))
           (eqb_tells (arity_of rule) 2))
           (eqb_tells (arity_of rule) 1)
         where
-          moved : {ks : List ℕ} → seated rule position n i j ≡ ks → Step al v l rule ks o
-          moved e = subst (λ (ps : List ℕ). Step al v l rule ps o) e a
+          moved : {ks : List ℕ} → seated rule position n i j ≡ ks → GivenAt position n ks
+          moved e = subst (GivenAt position n) e a
 
-          alone : arity_of rule ≢ 3 → OnLane (last_lane rule position n x y) l n
-          alone few = subst (λ (lane : Lane). OnLane lane l n) (sym (few_last rule position n x y few)) (in_n, λ d. refl)
+          near : (k : ℕ) → arity_of rule ≢ 3 → OnLane (beside rule position n x) l k → OnLane (last_lane rule position n x y) l k
+          near k few = subst (λ (lane : Lane). OnLane lane l k) (sym (few_last rule position n x few y))

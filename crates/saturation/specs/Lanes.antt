@@ -2,6 +2,7 @@
 use Rattle.std.specs.Prelude.{◌≡◌, ℕ, Bool, cond, ◌==◌, ◌||◌, List}
 use Rattle.standpoint.specs.declared.statement.Statement.{Statement}
 use Rattle.standpoint.specs.Statements.{statement}
+use Rattle.standpoint.specs.Rules.{arity_of}
 use Rattle.saturation.specs.declared.row.Row.{Row}
 use Rattle.saturation.specs.declared.places.Position.{Position}
 use Rattle.saturation.specs.declared.places.Position.TheVariants.{First, Second, Third}
@@ -146,26 +147,34 @@ beside rule First n x = beside_first rule n x
 beside rule Second n x = beside_second rule x
 beside rule Third n x = beside_third rule x
 
--- the last of three premises, beside the newest x, settled at n, and its partner y; with fewer premises n stands for it
-abbrev pub last_lane : ℕ → Position → ℕ → Statement → Statement → Lane
-last_lane rule First n x y =
+-- the last of three premises, beside the newest x and its partner y
+abbrev pub last_of_three : ℕ → Position → Statement → Statement → Lane
+last_of_three rule First x y =
     cond (rule == 3) (Only Ending (statement 1 x.first y.second 0 0 0))
     (cond (rule == 14) (Along Inner (statement 3 0 0 x.first x.fourth 0))
     (cond (rule == 15) (Along Source (statement 5 x.first x.fourth y.third 0 0))
     (cond (rule == 17) (Only Inner (statement 3 x.first x.second x.third x.fourth y.third))
-    (Alone n))))
-last_lane rule Second n x y =
+    Nowhere)))
+last_of_three rule Second x y =
     cond (rule == 3) (Only Ending (statement 1 x.first y.first 0 0 0))
     (cond (rule == 14) (Along Source (statement 8 y.first y.third 0 0 0))
     (cond (rule == 15) (Along Ending (statement 5 x.first 0 y.second x.second 0))
     (cond (rule == 17) (Only Inner (statement 3 x.first x.second x.third x.fourth y.second))
-    (Alone n))))
-last_lane rule Third n x y =
+    Nowhere)))
+last_of_three rule Third x y =
     cond (rule == 3) (Only Ending (statement 1 y.first x.second 0 0 0))
     (cond (rule == 14) (Along Inner (statement 3 0 0 y.first y.fourth 0))
     (cond (rule == 15) (Along Source (statement 5 y.first y.fourth x.third 0 0))
     (cond (rule == 17) (Only Inner (statement 3 y.first y.second y.third y.fourth x.third))
-    (Alone n))))
+    Nowhere)))
+
+-- of three premises the partner of x, settled at n, that is looked for first; of fewer x is its own
+abbrev pub partner_lane : ℕ → Position → ℕ → Statement → Lane
+partner_lane rule position n x = cond (arity_of rule == 3) (beside rule position n x) (Alone n)
+
+-- the last premise, beside x and its partner y
+abbrev pub last_lane : ℕ → Position → ℕ → Statement → Statement → Lane
+last_lane rule position n x y = cond (arity_of rule == 3) (last_of_three rule position x y) (beside rule position n x)
 
 -- y, settled at k, is on a lane
 abbrev pub Within : Lane → ℕ → Statement → Type 0

@@ -78,4 +78,4 @@ arranged rule Third n i j = i ∷ j ∷ n ∷ []
 
 -- as many as the rule has premises
 abbrev pub seated : ℕ → Position → ℕ → ℕ → ℕ → List ℕ
-seated rule position n i j = cond (arity_of rule == 1) (n ∷ []) (cond (arity_of rule == 2) (paired position n i) (arranged rule position n i j))
+seated rule position n i j = cond (arity_of rule == 1) (n ∷ []) (cond (arity_of rule == 2) (paired position n j) (arranged rule position n i j))

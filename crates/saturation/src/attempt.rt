@@ -4,10 +4,10 @@ ghost use Rattle.standpoint.specs.RuleNumbers.{number_of_rule};
 ghost use Rattle.standpoint.specs.Rules.{listed};
 ghost use Rattle.saturation.specs.Tables.{view, Same};
 ghost use Rattle.saturation.specs.Places.{listed_places, statements_of, grades_of, joined, Step};
-ghost use Rattle.saturation.specs.Searching.{premises_in, SettledPlaces, OnLane, Went};
+ghost use Rattle.saturation.specs.Searching.{premises_in, SettledPlaces, OnLane, seated, Went};
 
 use crate::lane::Lane;
-use crate::places::Places;
+use crate::places::{Places, Position};
 use crate::rows::NoRow;
 use crate::table::Table;
 use standpoint::{Kind, Premises, Rule};
@@ -79,21 +79,23 @@ impl<'a, G: Copy> Table<'a, G> {
         }
     }
 
-    // The same, where the premise at k is on this lane.
+    // The same of the newest at this position, its partner i and the last one j, where that is on this lane.
     pub(crate) fn attempt_along<K: Kind<Grade = G>>(
         &mut self,
         inference: &Inference<'_, K>,
         lane: &Lane,
-        k: usize,
-        at: Places,
+        position: Position,
+        newest: usize,
+        i: usize,
+        j: usize,
     ) -> Result<(), NoRow>
-        requires { (k < self.old.settled) × SettledPlaces self.old.settled (listed_places at) }
+        requires { (newest < self.old.settled) × (i < self.old.settled) × (j < self.old.settled) }
         ensures same { Same self.old self.new }
-        ensures state { Went (K.Kind.algebra inference.now.kind.now) inference.now.individuals (view self.old) (view self.new) (λ l o. OnLane lane.now l k × Step (K.Kind.algebra inference.now.kind.now) inference.now.individuals l (number_of_rule inference.now.rule) (listed_places at) o) (λ l. Step (K.Kind.algebra inference.now.kind.now) inference.now.individuals l (number_of_rule inference.now.rule) (listed_places at)) (is_ok result) }
+        ensures state { Went (K.Kind.algebra inference.now.kind.now) inference.now.individuals (view self.old) (view self.new) (λ l o. OnLane lane.now l j × Step (K.Kind.algebra inference.now.kind.now) inference.now.individuals l (number_of_rule inference.now.rule) (seated (number_of_rule inference.now.rule) position newest i j) o) (λ l. Step (K.Kind.algebra inference.now.kind.now) inference.now.individuals l (number_of_rule inference.now.rule) (seated (number_of_rule inference.now.rule) position newest i j)) (is_ok result) }
     {
-        if !self.is_along(lane, k) {
+        if !self.is_along(lane, j) {
             return Ok(());
         }
-        self.attempt(inference, at)
+        self.attempt(inference, position.seat(inference.rule, newest, i, j))
     }
 }

@@ -1,7 +1,7 @@
 // Which premises may join with the newest one, by a rule: on which lane they are.
 ghost use Rattle.std.specs.Prelude.{◌≡◌};
 ghost use Rattle.standpoint.specs.RuleNumbers.{number_of_rule};
-ghost use Rattle.saturation.specs.Lanes.{first_shape, second_shape, third_shape, takes, beside, inclusion_first, beside_first, inclusion_second, beside_second, beside_third, last_lane};
+ghost use Rattle.saturation.specs.Lanes.{first_shape, second_shape, third_shape, takes, beside, inclusion_first, beside_first, inclusion_second, beside_second, beside_third, last_of_three, partner_lane, last_lane};
 
 use crate::lane::Lane;
 use crate::places::Position;
@@ -82,6 +82,7 @@ fn third_shape(rule: Rule) -> u8
 }
 
 // Whether a rule's premise at a position may have this shape: mostly not, and this is told fast.
+#[inline(always)]
 pub(crate) fn takes(rule: Rule, position: Position, shape: u8) -> bool
     ensures { result ≡ takes (number_of_rule rule) position shape }
 {
@@ -182,7 +183,7 @@ fn beside_third(rule: Rule, x: Statement) -> Lane
 
 // Where the partners of the newest premise x are: of the two others of three, that which is taken first. By a rule with one, the
 // newest is its own.
-pub(crate) fn beside(rule: Rule, position: Position, newest: u32, x: Statement) -> Lane
+fn beside(rule: Rule, position: Position, newest: u32, x: Statement) -> Lane
     ensures { result ≡ beside (number_of_rule rule) position newest x }
 {
     match position {
@@ -192,15 +193,9 @@ pub(crate) fn beside(rule: Rule, position: Position, newest: u32, x: Statement) 
     }
 }
 
-// Where the last of three premises are, beside the newest x and its partner y. By a rule with fewer, the newest stands for it.
-pub(crate) fn last_lane(
-    rule: Rule,
-    position: Position,
-    newest: u32,
-    x: Statement,
-    y: Statement,
-) -> Lane
-    ensures { result ≡ last_lane (number_of_rule rule) position newest x y }
+// Where the last of three premises are, beside the newest x and its partner y.
+fn last_of_three(rule: Rule, position: Position, x: Statement, y: Statement) -> Lane
+    ensures { result ≡ last_of_three (number_of_rule rule) position x y }
 {
     match (rule, position) {
         (Rule::SharperThanBoth, Position::First) => Lane::sharpening(x.first, y.second),
@@ -217,6 +212,32 @@ pub(crate) fn last_lane(
         (Rule::ConjunctionMet, Position::First) => Lane::inclusion_to(x, y.third),
         (Rule::ConjunctionMet, Position::Second) => Lane::inclusion_to(x, y.second),
         (Rule::ConjunctionMet, Position::Third) => Lane::inclusion_to(y, x.third),
+        _ => Lane::Nowhere,
+    }
+}
+
+// Of a rule with three premises, where the partners of the newest x are. By one with fewer, the newest is its own.
+pub(crate) fn partner_lane(rule: Rule, position: Position, newest: u32, x: Statement) -> Lane
+    ensures { result ≡ partner_lane (number_of_rule rule) position newest x }
+{
+    match rule.arity() {
+        3 => beside(rule, position, newest, x),
         _ => Lane::Alone(newest),
+    }
+}
+
+// Where the last premises are, beside the newest x and its partner y.
+pub(crate) fn last_lane(
+    rule: Rule,
+    position: Position,
+    newest: u32,
+    x: Statement,
+    y: Statement,
+) -> Lane
+    ensures { result ≡ last_lane (number_of_rule rule) position newest x y }
+{
+    match rule.arity() {
+        3 => last_of_three(rule, position, x, y),
+        _ => beside(rule, position, newest, x),
     }
 }

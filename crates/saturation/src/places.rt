@@ -70,13 +70,13 @@ impl Position {
         }
     }
 
-    // As many places as the rule has premises.
+    // As many places as the rule has premises, j the last.
     pub(crate) fn seat(self, rule: Rule, newest: usize, i: usize, j: usize) -> Places
         ensures { listed_places result ≡ seated (number_of_rule rule) self newest i j }
     {
         match rule.arity() {
             1 => Places::One(newest),
-            2 => self.pair(newest, i),
+            2 => self.pair(newest, j),
             _ => self.arrange(rule, newest, i, j),
         }
     }

@@ -5,8 +5,7 @@ ghost use Rattle.saturation.specs.Places.{Uses};
 ghost use Rattle.saturation.specs.Searching.{Went};
 
 use crate::attempt::Inference;
-use crate::joins::{beside, last_lane, takes};
-use crate::lane::Lane;
+use crate::joins::{last_lane, partner_lane, takes};
 use crate::places::Position;
 use crate::rows::NoRow;
 use crate::table::Table;
@@ -37,22 +36,24 @@ impl<'a, G: Copy> Table<'a, G> {
                 if !takes(rule, position, x.shape) {
                     continue;
                 }
-                let lane = beside(rule, position, newest as u32, x);
+                let lane = partner_lane(rule, position, newest as u32, x);
                 let mut partner = self.last_along(&lane);
                 while let Some(i) = partner {
                     let i = i as usize;
-                    let y = self.settled_statement(i);
-                    let met = self.is_along(&lane, i);
-                    let lasts = Lane::when(met, last_lane(rule, position, newest as u32, x, y));
-                    let mut last = self.last_along(&lasts);
-                    while let Some(j) = last {
-                        let j = j as usize;
-                        let places = position.seat(rule, newest, i, j);
-                        outcome = self.attempt_along(&inference, &lasts, j, places);
-                        if outcome.is_err() {
-                            break 'search;
+                    if self.is_along(&lane, i) {
+                        let y = self.settled_statement(i);
+                        let lasts = last_lane(rule, position, newest as u32, x, y);
+                        let mut last = self.last_along(&lasts);
+                        while let Some(j) = last {
+                            let j = j as usize;
+                            outcome = self.attempt_along(
+                                &inference, &lasts, position, newest, i, j,
+                            );
+                            if outcome.is_err() {
+                                break 'search;
+                            }
+                            last = self.next_along(&lasts, j);
                         }
-                        last = self.next_along(&lasts, j);
                     }
                     partner = self.next_along(&lane, i);
                 }
