@@ -1,5 +1,5 @@
 -- What a load leaves of memory: what begin and one add a record leave.
-use Rattle.std.proofs.Common.{◌≡◌, ℕ, ◌≤◌, List, Ok, Err, Option, Result, sym, subst, arith}
+use Rattle.std.proofs.Common.{ℕ, ◌≤◌, List, Ok, Err, Option, Result, sym, subst, arith}
 use Rattle.standpoint.specs.declared.statement.Statement.{Statement}
 use Rattle.standpoint.specs.Algebra.{Algebra}
 use Rattle.saturation.specs.declared.table.Table.{Table}
@@ -10,7 +10,7 @@ use Rattle.reasoner.specs.Calls.{Unchanged, AddsRow}
 use Rattle.blockfile.specs.declared.fault.BlockFault.TheVariants.{Sum, Layout, Begin, InRecord}
 use Rattle.blockfile.specs.declared.fault.LoadFault.{LoadFault}
 use Rattle.blockfile.specs.declared.fault.LoadFault.TheVariants.{Length, InBlock}
-use Rattle.blockfile.specs.Loads.{Added, none, one_more, RecordRefused, StoppedAt, Loaded}
+use Rattle.blockfile.specs.Loads.{Added, none, one_more, StoppedAt, Loaded}
 use Rattle.blockfile.proofs.Accepting.{refused_leaves}
 
 module _ {G : Type 0} where

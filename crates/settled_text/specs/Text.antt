@@ -1,5 +1,5 @@
 -- The bytes of each line, and what a call that writes a line leaves.
-use Rattle.std.specs.Prelude.{◌≡◌, ℕ, ◌<◌, ◌≤◌, Bool, true, false, cond, List, [], ◌∷◌, ◌++◌, map, length, drop, Ok, Err, codes, decimal, Result, nat_le, slice_index_or}
+use Rattle.std.specs.Prelude.{◌≡◌, ℕ, ◌<◌, ◌≤◌, Bool, true, false, List, [], ◌∷◌, ◌++◌, map, length, drop, Ok, Err, codes, decimal, Result, slice_index_or}
 use Rattle.std.specs.List.{range_with_len}
 use Rattle.standpoint.specs.declared.refusal.Refusal.{Refusal}
 use Rattle.standpoint.specs.declared.refusal.Refusal.TheVariants.{NotBegun, BufferTooShort}
