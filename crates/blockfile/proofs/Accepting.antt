@@ -122,7 +122,7 @@ module _ {G : Type 0} where
           let loaded : Loaded decoded file al letter s v (Err (InBlock (InRecord f))) = (n, checked, rw at lt, (u, begun, whole)) in
           subst (λ (l : LoadFault). Loaded decoded file al letter s v (Err l)) (sym (e ∙ ap InBlock is)) loaded
 
-      refused_leaves : (f : RecordFault) (s t : Table G) → RecordRefused decoded file al s t f → Unchanged s t
+      pub refused_leaves : (f : RecordFault) (s t : Table G) → RecordRefused decoded file al s t f → Unchanged s t
       refused_leaves (Code b p) s t h = h.1
       refused_leaves (Add b p why) s t h = refused_unchanged al (statement_in file b p) h.grade s t why h.adds
 

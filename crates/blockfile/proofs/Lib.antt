@@ -1,3 +1,4 @@
 mod Accepting
+mod Leaving
 mod Chunks
 mod Unsound

@@ -1,6 +1,7 @@
 // The load of a file into a reasoner.
 ghost use Rattle.std.specs.Prelude.{◌≡◌, ◌≤◌, OnOk};
 ghost use Rattle.saturation.specs.Tables.{view, capacity, OverSame};
+ghost use Rattle.saturation.specs.Memory.{Leaves};
 ghost use Rattle.blockfile.specs.declared.fault.RecordFault.{RecordFault};
 ghost use Rattle.blockfile.specs.declared.fault.BlockFault.TheVariants.{InRecord};
 ghost use Rattle.blockfile.specs.declared.fault.LoadFault.TheVariants.{InBlock};
@@ -22,6 +23,7 @@ pub fn load<K: StoredKind>(
 ) -> Result<(), LoadFault>
     ensures memory { OverSame reasoner.old reasoner.new }
     ensures long { capacity (view reasoner.new) ≡ capacity (view reasoner.old) }
+    ensures leaves { Leaves (view reasoner.old) (view reasoner.new) }
     ensures answer { Loaded K.StoredKind.decoded file.now (K.Kind.algebra kind.now) K.StoredKind.KIND_BYTE reasoner.old reasoner.new result }
 
     // What follows in the words of a run.

@@ -1,4 +1,4 @@
--- Two states of a table that differ in marks alone.
+-- Two states of a table that differ in what is listed alone.
 use Rattle.std.proofs.Common.{◌≡◌, ℕ, ◌+◌, ◌<◌, ◌≤◌, Bool, List, length, get_or, sym, refl, ap, ◌∙◌, subst, ⊎_elim, arith, length-set}
 use Rattle.std.proofs.lemmas.List.{get_or-set_same, get_or-set_other, ext_get_or}
 use Rattle.standpoint.specs.declared.statement.Statement.{Statement}
@@ -11,7 +11,7 @@ use Rattle.saturation.specs.Tables.{State, row_at, statement_at, turn_at}
 use Rattle.saturation.specs.Searching.{Premise}
 use Rattle.saturation.proofs.Offers.{equal_or, below_or}
 use Rattle.explanation.specs.Needed.{kept_at, Names, Rests, rank, Renumbers, ChosenWritten}
-use Rattle.explanation.specs.Marks.{mark_at, remarked, with_mark, Clean, ButMarks}
+use Rattle.explanation.specs.Marks.{listed_at, relisted, with_listed, Clean, ButMarks}
 
 module _ {G : Type 0} where
   pub but_marks_trans : (s t u : State G) → ButMarks s t → ButMarks t u → ButMarks s u
@@ -20,33 +20,33 @@ module _ {G : Type 0} where
     settled = b.settled ∙ a.settled;
     grades = b.grades ∙ a.grades;
     long = b.long ∙ a.long;
-    each = λ k. b.each k ∙ ap (λ (r : Row). remarked r (mark_at u k)) (a.each k);
+    each = λ k. b.each k ∙ ap (λ (r : Row). relisted r (listed_at u k)) (a.each k);
     above = λ k h. let e = a.settled in b.above k (omega arith) ∙ a.above k h;
   }
 
-  -- one mark set or taken back
-  module _ (s : State G) (k : ℕ) (b : Bool) (h : k < s.settled) (fit : s.settled ≤ length s.rows) where
-    row_here : row_at (with_mark s k b) k ≡ remarked (row_at s k) b
-    row_here = get_or-set_same s.rows k (remarked (row_at s k) b) no_row (omega arith)
+  -- one number listed
+  module _ (s : State G) (k n : ℕ) (h : k < s.settled) (fit : s.settled ≤ length s.rows) where
+    row_here : row_at (with_listed s k n) k ≡ relisted (row_at s k) n
+    row_here = get_or-set_same s.rows k (relisted (row_at s k) n) no_row (omega arith)
 
-    row_there : (j : ℕ) → (j ≡ k → ⊥) → row_at (with_mark s k b) j ≡ row_at s j
-    row_there j ne = get_or-set_other s.rows k j (remarked (row_at s k) b) no_row ne
+    row_there : (j : ℕ) → (j ≡ k → ⊥) → row_at (with_listed s k n) j ≡ row_at s j
+    row_there j ne = get_or-set_other s.rows k j (relisted (row_at s k) n) no_row ne
 
-    pub mark_here : mark_at (with_mark s k b) k ≡ b
-    mark_here = ap (λ (r : Row). r.mark) row_here
+    pub listed_here : listed_at (with_listed s k n) k ≡ n
+    listed_here = ap (λ (r : Row). r.listed) row_here
 
-    pub mark_there : (j : ℕ) → (j ≡ k → ⊥) → mark_at (with_mark s k b) j ≡ mark_at s j
-    mark_there j ne = ap (λ (r : Row). r.mark) (row_there j ne)
+    pub listed_there : (j : ℕ) → (j ≡ k → ⊥) → listed_at (with_listed s k n) j ≡ listed_at s j
+    listed_there j ne = ap (λ (r : Row). r.listed) (row_there j ne)
 
-    pub but_one_mark : ButMarks s (with_mark s k b)
-    but_one_mark = record {
+    pub but_one : ButMarks s (with_listed s k n)
+    but_one = record {
       len = refl;
       settled = refl;
       grades = refl;
-      long = length-set s.rows k (remarked (row_at s k) b);
+      long = length-set s.rows k (relisted (row_at s k) n);
       each = λ j. ⊎_elim
-          (λ e. subst (λ (i : ℕ). row_at (with_mark s k b) i ≡ remarked (row_at s i) (mark_at (with_mark s k b) i)) (sym e) (row_here ∙ ap (remarked (row_at s k)) (sym mark_here)))
-          (λ ne. row_there j ne ∙ ap (remarked (row_at s j)) (sym (mark_there j ne)))
+          (λ e. subst (λ (i : ℕ). row_at (with_listed s k n) i ≡ relisted (row_at s i) (listed_at (with_listed s k n) i)) (sym e) (row_here ∙ ap (relisted (row_at s k)) (sym listed_here)))
+          (λ ne. row_there j ne ∙ ap (relisted (row_at s j)) (sym (listed_there j ne)))
           (equal_or j k);
       above = λ j le. row_there j (λ e. omega arith);
     }
@@ -82,17 +82,17 @@ module _ {G : Type 0} where
           gives = premise_same k (given v) w.gives;
         }
 
-    -- what is written does not depend on the marks
+    -- what is written does not depend on what is listed
     pub written_same : (m : ℕ → Bool) (n : ℕ) (old new : List (Step G)) → ChosenWritten u m n old new → ChosenWritten s m n old new
     written_same m n old new w = record { long = w.long; each = λ k h t d. renumbers_same m k (get_or new (rank m k) d) (w.each k h t d); rest = w.rest }
 
-    -- with all marks taken back the table is as it was
+    -- with nothing listed the table is as it was
     pub clean_same : Clean s → Clean u → u ≡ s
     clean_same cs cu =
         let st = b.settled in
         let rows : u.rows ≡ s.rows = ext_get_or no_row u.rows s.rows b.long (λ k h.
         ⊎_elim
-        (λ lt. b.each k ∙ ap (remarked (row_at s k)) (cu k (omega arith) ∙ sym (cs k lt)))
+        (λ lt. b.each k ∙ ap (relisted (row_at s k)) (cu k (omega arith) ∙ sym (cs k lt)))
         (λ ge. b.above k ge)
         (below_or k s.settled)) in
         let e1 = b.grades in

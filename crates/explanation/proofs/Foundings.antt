@@ -16,6 +16,11 @@ place_low xs (i ∷ is) [] st n j e = absurd st
 place_low xs (i ∷ is) (p ∷ ps) st zero j e = let h = st.0.0 in omega arith
 place_low xs (i ∷ is) (p ∷ ps) st (suc n) j e = place_low xs is ps st.1 n j e
 
+-- what rests on earlier ones alone needs none that is later than itself
+pub needed_low : {G : Type 0} (s : State G) (t : ℕ) → ((k : ℕ) → Needed s t k → k ≤ t → RestsEarlier s k true) → {k : ℕ} → Needed s t k → k ≤ t
+needed_low s t early itself = omega arith
+needed_low s t early (below {q} {j} n r) = let h = needed_low s t early n in let e = early q n h j r in omega arith
+
 module _ {G : Type 0} (a : Algebra G) (base : Base G) (l : List (Statement × G)) where
   none_named : (kept : Kept) (j : ℕ) → kept.first ≡ 0 → kept.second ≡ 0 → kept.third ≡ 0 → Names kept (j + 1) → ⊥
   none_named kept j z1 z2 z3 = ⊎_elim (λ f. omega arith) (⊎_elim (λ f. omega arith) (λ f. omega arith))
@@ -34,9 +39,5 @@ module _ {G : Type 0} (a : Algebra G) (base : Base G) (l : List (Statement × G)
     earlier : (k : ℕ) → k < length l → RestsEarlier s k true
     earlier k h j r = named_earlier k (get_or l k o) (kept_at s k) (ex k h o) j r
 
-    needed_low : {k : ℕ} → Needed s t k → k ≤ t
-    needed_low itself = omega arith
-    needed_low (below {q} {j} n r) = let h = needed_low n in let e = earlier q (omega arith) j r in omega arith
-
     pub explained_founded : Founded s t
-    explained_founded k n j r = let h = needed_low n in earlier k (omega arith) j r
+    explained_founded k n j r = let h = needed_low s t (λ i need le. earlier i (omega arith)) n in earlier k (omega arith) j r

@@ -1,10 +1,5 @@
 -- How many of the first places are chosen.
-use Rattle.std.proofs.Common.{◌≡◌, ℕ, zero, suc, ◌+◌, ◌<◌, ◌≤◌, Bool, true, false, cond, List, [], ◌∷◌, ◌++◌, length, take, get_or, sym, refl, ap, ◌∙◌, subst, ⊎_elim, arith, length-append}
-use Rattle.std.specs.List.{filter}
-use lib.Seq.{take-suc}
-use Rattle.std.proofs.lemmas.List.Elements.{filter-append}
-use Rattle.saturation.specs.declared.row.Row.{Row}
-use Rattle.saturation.specs.Rows.{no_row}
+use Rattle.std.proofs.Common.{◌≡◌, ℕ, zero, suc, ◌+◌, ◌<◌, ◌≤◌, Bool, true, false, cond, sym, refl, ap, ◌∙◌, subst, ⊎_elim, arith}
 use Rattle.saturation.proofs.Offers.{last_or, below_or}
 use Rattle.explanation.specs.Needed.{rank}
 
@@ -54,19 +49,9 @@ module _ (m : ℕ → Bool) where
       here true e ge = let f : one_if (m b) ≡ one_if true = ap one_if e in (b, omega arith, e, omega arith)
       here false e ge = let f : one_if (m b) ≡ one_if false = ap one_if e in absurd (omega arith)
 
--- how many of the first rows are marked
-pub count_ranks : (rows : List Row) (k : ℕ) → k ≤ length rows → length (filter (λ (r : Row). r.mark) (take k rows)) ≡ rank (λ j. (get_or rows j no_row).mark) k
-count_ranks rows zero h = refl
-count_ranks rows (suc k) h =
-    let marked : Row → Bool = λ r. r.mark in
-    let next : take (suc k) rows ≡ take k rows ++ get_or rows k no_row ∷ [] = take-suc rows k no_row (omega arith) in
-    let one : (r : Row) → length (filter marked (r ∷ [])) ≡ cond r.mark 1 0 = λ r. one_counted r r.mark refl in
-    ap (λ (rs : List Row). length (filter marked rs)) next
-    ∙ ap length (filter-append marked (take k rows) (get_or rows k no_row ∷ []))
-    ∙ length-append (filter marked (take k rows)) (filter marked (get_or rows k no_row ∷ []))
-    ∙ ap (λ (n : ℕ). n + length (filter marked (get_or rows k no_row ∷ []))) (count_ranks rows k (omega arith))
-    ∙ ap (λ (n : ℕ). rank (λ j. (get_or rows j no_row).mark) k + n) (one (get_or rows k no_row))
-  where
-    one_counted : (r : Row) (b : Bool) → r.mark ≡ b → length (filter (λ (r : Row). r.mark) (r ∷ [])) ≡ cond r.mark 1 0
-    one_counted r true e = rw e refl
-    one_counted r false e = rw e refl
+-- choices that agree below a place have as many there
+pub rank_same : (m q : ℕ → Bool) (n : ℕ) → ((k : ℕ) → k < n → m k ≡ q k) → rank m n ≡ rank q n
+rank_same m q zero agree = refl
+rank_same m q (suc n) agree =
+    let rest = rank_same m q n (λ k h. agree k (omega arith)) in
+    ap (λ (i : ℕ). i + cond (m n) 1 0) rest ∙ ap (λ (b : Bool). rank q n + cond b 1 0) (agree n (omega arith))

@@ -1,6 +1,6 @@
--- Over a run, what is written is a list of right steps that ends in the statement at its settled grade.
+-- Over a run, the list that a settled statement rests on is one of right steps that ends in it at its settled grade.
 use Rattle.std.proofs.Common.{◌≡◌, ℕ, ◌+◌, ◌-◌, ◌<◌, ◌≤◌, Bool, List, [], ◌∷◌, length, get_or, take, sym, ap, ◌∙◌, subst, inl, inr, arith}
-use Rattle.std.proofs.lemmas.List.{get_or_default, get_or-take, length-take-le}
+use Rattle.std.proofs.lemmas.List.{get_or_default, get_or-take}
 use Rattle.standpoint.specs.declared.statement.Statement.{Statement}
 use Rattle.standpoint.specs.declared.step.Step.{Step}
 use Rattle.standpoint.specs.Lists.{StandsAt}
@@ -21,31 +21,14 @@ use Rattle.saturation.specs.Offering.{Explained}
 use Rattle.saturation.specs.Searching.{Lists}
 use Rattle.saturation.proofs.Lists.{premise_at, stands_same}
 use Rattle.saturation.proofs.Stepping.{stands_in}
-use Rattle.explanation.specs.Needed.{kept_at, Rests, Needed, itself, below, Founded, rank, Chooses, Renumbers, ChosenWritten}
+use Rattle.explanation.specs.Needed.{kept_at, Rests, Needed, itself, below, rank, Renumbers, ListOf}
 use Rattle.explanation.proofs.Ranks.{rank_taken, rank_below, unrank}
 
--- the front of a list of right steps
-module _ {G : Type 0} (a : Algebra G) (base : Base G) (xs : List (Step G)) (count : ℕ) (room : count ≤ length xs) where
-  earlier_take : (n place : ℕ) (p : Step G) → n < count → Earlier xs n place p → Earlier (take count xs) n place p
-  earlier_take n place p h at =
-      let e = length-take-le count xs room in
-      let l = at.0 in
-      let u = at.1 in
-      (at.0, at.1, (omega arith, λ d. get_or-take count xs (place - 1) d (omega arith) ∙ at.2.1 d))
-
-  agrees_take : (n : ℕ) (s : Step G) → n < count → Agrees a base xs n s → Agrees a base (take count xs) n s
-  agrees_take n s h (by_acceptance r i j k m) = by_acceptance r i j k m
-  agrees_take n s h (by_tautology r i j k t e) = by_tautology r i j k t e
-  agrees_take n s h (by_one p i j k r e) = by_one p (earlier_take n s.first p h i) j k r e
-  agrees_take n s h (by_two p q i j k r e) = by_two p q (earlier_take n s.first p h i) (earlier_take n s.second q h j) k r e
-  agrees_take n s h (by_three p q t i j k r e) = by_three p q t (earlier_take n s.first p h i) (earlier_take n s.second q h j) (earlier_take n s.third t h k) r e
-
-  right_take : (n : ℕ) (s : Step G) → n < count → Right a base xs n s → Right a base (take count xs) n s
-  right_take n s h r = record { fits = r.fits; agrees = agrees_take n s h r.agrees }
-
 module _ {G : Type 0} (a : Algebra G) (base : Base G) (range : InRange base.sizes) (l : Settled G) (run : Run a base l) (s : State G) (lists : Lists s l) (ex : Explained a base l s)
-    (t : ℕ) (within : t < s.settled) (m : ℕ → Bool) (chooses : Chooses s t m) (founded : Founded s t)
-    (old new : List (Step G)) (room : rank m (t + 1) ≤ length old) (w : ChosenWritten s m (t + 1) old new) where
+    (t : ℕ) (within : t < s.settled) (steps : List (Step G)) (w : ListOf s t steps) where
+  abbrev m : ℕ → Bool
+  m = w.chosen
+
   -- what is written for k was settled as the k-th
   settled_there : (k : ℕ) → k ≤ t → (v : Step G) → Renumbers s m k v → StandsAt l k (given v)
   settled_there k h v wr = premise_at s l k (given v) lists (omega arith) wr.gives
@@ -53,13 +36,13 @@ module _ {G : Type 0} (a : Algebra G) (base : Base G) (range : InRange base.size
   -- a premise of a needed step, where it is written
   record Line (k i : ℕ) (p : Statement × G) : Type 0 where
     step : Step G
-    at : Earlier new (rank m k) (rank m (i + 1)) step
+    at : Earlier steps (rank m k) (rank m (i + 1)) step
     gives : given step ≡ p
 
   line : (k i : ℕ) (p : Statement × G) → k ≤ t → Needed s t k → Rests s k i → StandsAt (take k l) i p → Step G → Line k i p
   line k i p hk n r at v =
-      let c = chooses.complete i (below n r) in
-      let lt = founded k n i r in
+      let c = w.chooses.complete i (below n r) in
+      let lt = w.founded k n i r in
       let le = c.0 in
       let lg = lists.long in
       let e = rank_taken m i c.1 in
@@ -67,21 +50,21 @@ module _ {G : Type 0} (a : Algebra G) (base : Base G) (range : InRange base.size
       let hi = rank_below m i (t + 1) (omega arith) c.1 in
       let nl = w.long in
       let f : rank m (i + 1) - 1 ≡ rank m i = omega arith in
-      let h : rank m i < length new = omega arith in
-      let u : Step G = get_or new (rank m i) v in
+      let h : rank m i < length steps = omega arith in
+      let u : Step G = get_or steps (rank m i) v in
       record {
         step = u;
-        at = (omega arith, omega arith, (omega arith, λ d. ap (λ (j : ℕ). get_or new j d) f ∙ get_or_default new (rank m i) d v h));
-        gives = stands_same l i (given u) p (settled_there i c.0 u (w.each i (omega arith) c.1 v)) (omega arith, λ d. sym (get_or-take k l i d lt) ∙ at.1 d);
+        at = (omega arith, omega arith, (omega arith, λ d. ap (λ (j : ℕ). get_or steps j d) f ∙ get_or_default steps (rank m i) d v h));
+        gives = stands_same l i (given u) p (settled_there i c.0 u (w.each i c.0 c.1 v)) (omega arith, λ d. sym (get_or-take k l i d lt) ∙ at.1 d);
       }
 
   module _ (k : ℕ) (v : Step G) (hk : k ≤ t) (n : Needed s t k) (wr : Renumbers s m k v) where
-    earlier_line : (place i : ℕ) (p : Statement × G) → place ≡ rank m (i + 1) → (u : Line k i p) → Earlier new (rank m k) place u.step
-    earlier_line place i p e u = subst (λ (j : ℕ). Earlier new (rank m k) j u.step) (sym e) u.at
+    earlier_line : (place i : ℕ) (p : Statement × G) → place ≡ rank m (i + 1) → (u : Line k i p) → Earlier steps (rank m k) place u.step
+    earlier_line place i p e u = subst (λ (j : ℕ). Earlier steps (rank m k) j u.step) (sym e) u.at
 
     -- a rule over premises that stand among those settled before
     rule_agrees : (rule : ℕ) (places : List ℕ) (premises : List (Statement × G)) → kept_at s k ≡ kept_of rule places → StandAt (take k l) places premises →
-        Rule base.sizes.individuals v.rule (statements_of premises) v.statement → v.grade ≡ joined a (grades_of premises) → Agrees a base new (rank m k) v
+        Rule base.sizes.individuals v.rule (statements_of premises) v.statement → v.grade ≡ joined a (grades_of premises) → Agrees a base steps (rank m k) v
     rule_agrees rule [] [] e st gives grade = let h = few_premises gives in absurd (omega arith)
     rule_agrees rule [] (p ∷ ps) e st gives grade = absurd st
     rule_agrees rule (i ∷ is) [] e st gives grade = absurd st
@@ -116,7 +99,7 @@ module _ {G : Type 0} (a : Algebra G) (base : Base G) (range : InRange base.size
     rule_agrees rule (i ∷ j ∷ h ∷ f ∷ is) (p ∷ q ∷ r ∷ []) e st gives grade = absurd st.1.1.1
     rule_agrees rule (i ∷ j ∷ h ∷ f ∷ is) (p ∷ q ∷ r ∷ o ∷ ps) e st gives grade = let few = few_premises gives in absurd (omega arith)
 
-    step_agrees : KeptRight a base (take k l) (given v) (kept_at s k) → Agrees a base new (rank m k) v
+    step_agrees : KeptRight a base (take k l) (given v) (kept_at s k) → Agrees a base steps (rank m k) v
     step_agrees (kept_accepted e mem) =
         by_acceptance (wr.rule ∙ ap (λ (x : Kept). x.rule) e) (wr.first ∙ ap (λ (x : Kept). rank m x.first) e) (wr.second ∙ ap (λ (x : Kept). rank m x.second) e) (wr.third ∙ ap (λ (x : Kept). rank m x.third) e) mem
     step_agrees (kept_tautology e truth start) =
@@ -125,37 +108,37 @@ module _ {G : Type 0} (a : Algebra G) (base : Base G) (range : InRange base.size
         let is_rule : rule ≡ v.rule = sym (wr.rule ∙ ap (λ (x : Kept). x.rule) e) in
         rule_agrees rule places step.premises e step.stand (subst (λ (r : ℕ). Rule base.sizes.individuals r (statements_of step.premises) v.statement) is_rule step.gives) step.grade
 
-    step_right : Right a base new (rank m k) v
+    step_right : Right a base steps (rank m k) v
     step_right =
         let at = settled_there k hk v wr in
         let mem = stands_in l k (given v) at in
         let right = subst (λ (o : Statement × G). KeptRight a base (take k l) o (kept_at s k)) (at.1 (given v)) (ex k at.0 (given v)) in
         record { fits = derived_fits a base range (settled_derives a base run v.statement v.grade mem); agrees = step_agrees right }
 
-  all_right : (n : ℕ) → n < rank m (t + 1) → (d : Step G) → Right a base new n (get_or new n d)
+  all_right : (n : ℕ) → n < length steps → (d : Step G) → Right a base steps n (get_or steps n d)
   all_right n h d =
-      let f = unrank m (t + 1) n h in
+      let long = w.long in
+      let f = unrank m (t + 1) n (omega arith) in
       let lt = f.1 in
-      subst (λ (i : ℕ). Right a base new i (get_or new i d)) f.3
-      (step_right f.0 (get_or new (rank m f.0) d) (omega arith) (chooses.sound f.0 (omega arith) f.2) (w.each f.0 f.1 f.2 d))
+      let low : f.0 ≤ t = omega arith in
+      subst (λ (i : ℕ). Right a base steps i (get_or steps i d)) f.3
+      (step_right f.0 (get_or steps (rank m f.0) d) low (w.chooses.sound f.0 (omega arith) f.2) (w.each f.0 low f.2 d))
 
-  pub written_passes : (o : Statement × G) → StandsAt l t o → (count : ℕ) → count ≡ rank m (t + 1) → Passes a base (take count new) o.0 o.1
-  written_passes o at count is =
-      let nl = w.long in
-      let fits : count ≤ length new = omega arith in
-      let lt = length-take-le count new fits in
-      let own = chooses.complete t itself in
+  pub list_passes : (o : Statement × G) → StandsAt l t o → Passes a base steps o.0 o.1
+  list_passes o at =
+      let long = w.long in
+      let own = w.chooses.complete t itself in
       let e = rank_taken m t own.1 in
-      let back : length (take count new) - 1 ≡ rank m t = omega arith in
-      let low : rank m t < length new = omega arith in
+      let back : length steps - 1 ≡ rank m t = omega arith in
+      let low : rank m t < length steps = omega arith in
       let d : Step G = record { rule = 0; first = 0; second = 0; third = 0; statement = o.0; grade = o.1 } in
-      let v : Step G = get_or new (rank m t) d in
+      let v : Step G = get_or steps (rank m t) d in
       record {
         in_range = range;
-        right = λ n h d. subst (Right a base (take count new) n) (sym (get_or-take count new n d (omega arith))) (right_take a base new count fits n (get_or new n d) (omega arith) (all_right n (omega arith) d));
+        right = all_right;
         last = record {
           step = v;
-          at_end = (omega arith, λ z. ap (λ (j : ℕ). get_or (take count new) j z) back ∙ get_or-take count new (rank m t) z (omega arith) ∙ get_or_default new (rank m t) z d low);
+          at_end = (omega arith, λ z. ap (λ (j : ℕ). get_or steps j z) back ∙ get_or_default steps (rank m t) z d low);
           gives = stands_same l t (given v) o (settled_there t (omega arith) v (w.each t (omega arith) own.1 d)) at;
         };
       }

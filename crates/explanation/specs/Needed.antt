@@ -59,3 +59,16 @@ pub record ChosenWritten {G : Type 0} (s : State G) (m : ℕ → Bool) (n : ℕ)
   pub long : length new ≡ length old
   pub each : (k : ℕ) → k < n → m k ≡ true → (d : Step G) → Renumbers s m k (slice_index_or new (rank m k) d)
   pub rest : (i : ℕ) → rank m n ≤ i → (d : Step G) → slice_index_or new i d ≡ slice_index_or old i d
+
+-- the list of kept steps that the t-th settled statement rests on, each once, in settling order
+pub record ListOf {G : Type 0} (s : State G) (t : ℕ) (steps : List (Step G)) : Type 0 where
+  pub chosen : ℕ → Bool
+  pub chooses : Chooses s t chosen
+  pub founded : Founded s t
+  pub long : length steps ≡ rank chosen (t + 1)
+  pub each : (k : ℕ) → k ≤ t → chosen k ≡ true → (d : Step G) → Renumbers s chosen k (slice_index_or steps (rank chosen k) d)
+
+-- there is only one
+pub record OneList {G : Type 0} (s : State G) (t : ℕ) (steps : List (Step G)) : Type 0 where
+  pub is : ListOf s t steps
+  pub only : (others : List (Step G)) → ListOf s t others → others ≡ steps

@@ -10,8 +10,8 @@ ghost use Rattle.reasoner.specs.Calls.{Unchanged};
 ghost use Rattle.explanation.specs.Marks.{ButMarks, Clean};
 ghost use Rattle.explanation.specs.Explaining.{Explains, ExplainsAs, Finds, SettledAs, Writes};
 
-use crate::marks::{clear, mark_needed};
-use crate::writing::{count_marked, write_marked};
+use crate::marks::{clear, mark_needed, number_marked};
+use crate::writing::write_marked;
 use saturation::{Phase, Table};
 use standpoint::{Refusal, Statement, Step};
 
@@ -28,7 +28,7 @@ pub fn explain<G: Clone + Copy + Drop>(
     ensures meaning { (a : Algebra G) → Laws a → (b : Base G) (l : Settled G) → Holding a b reasoner.old l → ExplainsAs a b l statement buffer.old buffer.new result }
 {
     let t = settling_place(reasoner, statement)?;
-    // Marks may stand only in a reasoner that is not begun.
+    // Steps may be listed only in a reasoner that is not begun.
     let phase = reasoner.phase;
     reasoner.phase = Phase::Idle;
     let written = write_needed(reasoner, t, buffer);
@@ -48,15 +48,15 @@ fn settling_place<G: Copy>(reasoner: &Table<'_, G>, statement: Statement) -> Res
     first_settled(reasoner, statement).ok_or(Refusal::Unsettled)
 }
 
-// The first settling place of the statement, from 0, or none.
+// The first settling place of the statement, from 0, or none. By the index: a statement stands in one row.
 fn first_settled<G: Copy>(reasoner: &Table<'_, G>, statement: Statement) -> Option<usize>
     ensures { SettledAs (view reasoner.now) statement result }
 {
-    (0..reasoner.settled).find(|&k| reasoner.rows[reasoner.rows[k].turn as usize].statement
-        == statement)
+    let i = reasoner.find(statement)?;
+    reasoner.rows[i].place.map(|k| k as usize)
 }
 
-// The answer for the t-th settled statement; leaves marks behind.
+// The answer for the t-th settled statement; leaves what it listed behind.
 fn write_needed<G: Clone + Copy + Drop>(
     reasoner: &mut Table<'_, G>,
     t: usize,
@@ -68,7 +68,7 @@ fn write_needed<G: Clone + Copy + Drop>(
     ensures answer { Writes (view reasoner.old) t buffer.old buffer.new result }
 {
     mark_needed(reasoner, t)?;
-    if count_marked(reasoner, t + 1) > buffer.len() {
+    if number_marked(reasoner, t) > buffer.len() {
         return Err(Refusal::BufferTooShort);
     }
     Ok(write_marked(reasoner, t, buffer))

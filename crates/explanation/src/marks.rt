@@ -1,10 +1,11 @@
-// Marks at settling places. They may stand only while the reasoner counts as not begun.
+// What is listed for settled statements: marks, and then the places that the marked ones have in the list. It may stand only while
+// the reasoner counts as not begun.
 // Functions over the reasoner: a struct that borrowed it would have to say in each method that it borrows the same one.
 ghost use Rattle.std.specs.Prelude.{◌≡◌, ◌+◌, ◌<◌, ◌≤◌, true, false, map};
 ghost use Rattle.saturation.specs.Phases.{is_begun};
 ghost use Rattle.saturation.specs.Tables.{view, Same};
-ghost use Rattle.explanation.specs.Needed.{kept_at, Rests, RestsEarlier};
-ghost use Rattle.explanation.specs.Marks.{mark_at, remarked, with_mark, Clean, ButMarks, AddsMarks, MarksNeeded};
+ghost use Rattle.explanation.specs.Needed.{kept_at, rank, Rests, RestsEarlier};
+ghost use Rattle.explanation.specs.Marks.{mark_at, relisted, with_listed, Clean, ButMarks, AddsMarks, MarksNeeded, NumbersMarks};
 
 use saturation::{Kept, Row, Table};
 use standpoint::Refusal;
@@ -14,15 +15,24 @@ pub(crate) fn marked<G: Copy>(reasoner: &Table<'_, G>, k: usize) -> bool
     requires { k < reasoner.now.settled }
     ensures { result ≡ mark_at (view reasoner.now) k }
 {
-    reasoner.rows[k].mark
+    reasoner.rows[k].listed > 0
 }
 
+fn set_listed<G: Copy>(reasoner: &mut Table<'_, G>, k: usize, place: u32)
+    requires { (k < reasoner.old.settled) × (is_begun reasoner.old.phase ≡ false) }
+    ensures same { Same reasoner.old reasoner.new }
+    ensures state { view reasoner.new ≡ with_listed (view reasoner.old) k place }
+{
+    reasoner.rows[k].listed = place;
+}
+
+// A mark is any number but 0, until the places are known.
 fn set_mark<G: Copy>(reasoner: &mut Table<'_, G>, k: usize)
     requires { (k < reasoner.old.settled) × (is_begun reasoner.old.phase ≡ false) }
     ensures same { Same reasoner.old reasoner.new }
-    ensures state { view reasoner.new ≡ with_mark (view reasoner.old) k true }
+    ensures state { view reasoner.new ≡ with_listed (view reasoner.old) k 1 }
 {
-    reasoner.rows[k].mark = true;
+    set_listed(reasoner, k, 1);
 }
 
 // Takes all marks back.
@@ -37,10 +47,10 @@ pub(crate) fn clear<G: Copy>(reasoner: &mut Table<'_, G>)
 
 // Takes the marks of rows back.
 fn unmark(rows: &mut [Row])
-    ensures { rows.new ≡ map (λ r. remarked r false) rows.old }
+    ensures { rows.new ≡ map (λ r. relisted r 0) rows.old }
 {
     for row in rows {
-        row.mark = false;
+        row.listed = 0;
     }
 }
 
@@ -101,4 +111,21 @@ pub(crate) fn mark_needed<G: Copy>(reasoner: &mut Table<'_, G>, t: usize) -> Res
         }
     }
     Ok(())
+}
+
+// Gives the marked steps up to the t-th their places in the list, from the first to the last: how many.
+pub(crate) fn number_marked<G: Copy>(reasoner: &mut Table<'_, G>, t: usize) -> usize
+    requires { (t < reasoner.old.settled) × (is_begun reasoner.old.phase ≡ false) }
+    ensures same { Same reasoner.old reasoner.new }
+    ensures count { result ≡ rank (mark_at (view reasoner.new)) (t + 1) }
+    ensures state { NumbersMarks (view reasoner.old) (view reasoner.new) (t + 1) }
+{
+    let mut count = 0;
+    for k in 0..t + 1 {
+        if marked(reasoner, k) {
+            count += 1;
+            set_listed(reasoner, k, count as u32);
+        }
+    }
+    count
 }

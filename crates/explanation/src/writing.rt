@@ -1,39 +1,36 @@
 // Writing the marked steps out.
-ghost use Rattle.std.specs.Prelude.{◌≡◌, ◌+◌, ◌<◌, ◌≤◌, true, length, slice_set, filter};
+ghost use Rattle.std.specs.Prelude.{◌≡◌, ◌+◌, ◌<◌, ◌≤◌, length, slice_set};
 ghost use Rattle.saturation.specs.Tables.{view};
-ghost use Rattle.explanation.specs.Needed.{rank, Renumbers, ChosenWritten, RestsEarlier};
-ghost use Rattle.explanation.specs.Marks.{mark_at, MarksFounded};
+ghost use Rattle.explanation.specs.Needed.{rank, Renumbers, ChosenWritten};
+ghost use Rattle.explanation.specs.Marks.{mark_at, place_of, MarksPlaced, PremisesPlaced};
 
 use crate::marks::marked;
-use saturation::{Row, Table};
+use saturation::Table;
 use standpoint::Step;
 
-// How many of the first k settling places are marked.
-pub(crate) fn count_marked<G: Copy>(reasoner: &Table<'_, G>, k: usize) -> usize
-    requires { k ≤ reasoner.now.settled }
-    ensures { result ≡ rank (mark_at (view reasoner.now)) k }
+// The place in the list of a step whose settling place counts from 1; 0 is none.
+fn place_in_list<G: Copy>(reasoner: &Table<'_, G>, place: u32) -> usize
+    requires { place ≤ reasoner.now.settled }
+    ensures { result ≡ place_of (view reasoner.now) place }
 {
-    marked_among(&reasoner.rows[..k])
-}
-
-fn marked_among(rows: &[Row]) -> usize
-    ensures { result ≡ length (filter (λ r. r.mark) rows.now) }
-{
-    rows.iter().filter(|row| row.mark).count()
+    match place.checked_sub(1) {
+        Some(k) => reasoner.rows[k as usize].listed as usize,
+        None => 0,
+    }
 }
 
 // The k-th kept step, with the places that its premises have among the marked ones.
 fn renumbered<G: Clone + Copy + Drop>(reasoner: &Table<'_, G>, k: usize) -> Step<G>
-    requires { (k < reasoner.now.settled) × RestsEarlier (view reasoner.now) k true }
+    requires { (k < reasoner.now.settled) × PremisesPlaced (view reasoner.now) k }
     ensures { Renumbers (view reasoner.now) (mark_at (view reasoner.now)) k result }
 {
     let at = reasoner.rows[k].turn as usize;
     let row = reasoner.rows[at];
     Step {
         rule: row.kept.rule,
-        first: count_marked(reasoner, row.kept.first as usize),
-        second: count_marked(reasoner, row.kept.second as usize),
-        third: count_marked(reasoner, row.kept.third as usize),
+        first: place_in_list(reasoner, row.kept.first),
+        second: place_in_list(reasoner, row.kept.second),
+        third: place_in_list(reasoner, row.kept.third),
         statement: row.statement,
         grade: reasoner.grades[at],
     }
@@ -53,7 +50,7 @@ pub(crate) fn write_marked<G: Clone + Copy + Drop>(
     t: usize,
     buffer: &mut [Step<G>],
 ) -> usize
-    requires { (t < reasoner.now.settled) × (rank (mark_at (view reasoner.now)) (t + 1) ≤ length buffer.old) × MarksFounded (view reasoner.now) t }
+    requires { (t < reasoner.now.settled) × (rank (mark_at (view reasoner.now)) (t + 1) ≤ length buffer.old) × MarksPlaced (view reasoner.now) t }
     ensures count { result ≡ rank (mark_at (view reasoner.now)) (t + 1) }
     ensures steps { ChosenWritten (view reasoner.now) (mark_at (view reasoner.now)) (t + 1) buffer.old buffer.new }
 {

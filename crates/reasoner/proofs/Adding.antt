@@ -13,14 +13,17 @@ use Rattle.runs.specs.Runs.Offers.{leaf, one, two, three}
 use Rattle.runs.proofs.Distinct.{apart_distinct}
 use Rattle.saturation.specs.declared.row.Kept.{Kept}
 use Rattle.saturation.specs.Rows.{kept}
-use Rattle.saturation.specs.Tables.{State, capacity, has_room, Absent}
+use Rattle.saturation.specs.declared.table.Table.{Table}
+use Rattle.saturation.specs.Tables.{State, view, capacity, has_room, Absent}
+use Rattle.saturation.specs.Memory.{Offered}
 use Rattle.saturation.specs.Places.{KeptRight, kept_accepted, kept_tautology, kept_step}
-use Rattle.saturation.specs.Offering.{Taken, Keeps}
+use Rattle.saturation.specs.Offering.{Grown, Taken, Keeps}
 use Rattle.saturation.specs.Saturation.{Holds}
 use Rattle.saturation.proofs.Lists.{Fit, lists_grown}
 use Rattle.saturation.proofs.Going.{row_known, held, length_held, in_held, apart_held}
 use Rattle.reasoner.specs.Models.{accepting}
-use Rattle.reasoner.specs.Calls.{AllRowsTaken}
+use Rattle.saturation.proofs.Leaving.{grown_keeps}
+use Rattle.reasoner.specs.Calls.{AllRowsTaken, AddsRow}
 
 module _ {G : Type 0} (al : Algebra G) (b : Base G) (x : Statement) (g : G) where
   wider : (y : Statement) (h : G) → Offers al b [] y h → Offers al (accepting b x g) [] y h
@@ -69,3 +72,7 @@ module _ {G : Type 0} (al : Algebra G) (b : Base G) (x : Statement) (g : G) wher
       let long = length_held s s.len in let full : capacity s ≤ s.len = grind (arith, nat_tests) in omega arith,
     ),
   )
+
+-- what a performed add makes of any reasoner
+pub adds_row : {G : Type 0} (al : Algebra G) (x : Statement) (g : G) (s t : Table G) → t.phase ≡ s.phase → Offered al (view s) (view t) x g (kept 0 0 0 0) true → Grown (view s) (view t) → AddsRow al x g s t
+adds_row al x g s t phase row grown = record { phase = phase; row = row; leaves = grown.leaves; kept_settled = grown_keeps s.settled_fit s.turns s.in_place.places grown }

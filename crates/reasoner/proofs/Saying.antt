@@ -1,6 +1,5 @@
 -- What the rows tell of a statement, and of how the run stands.
-use Rattle.std.proofs.Common.{◌≡◌, ℕ, ◌<◌, ◌≤◌, Bool, true, false, cond, leb, ◌⊎◌, get_or, Some, None, sym, ap, ◌∙◌, subst, ⊎_elim, arith}
-use Rattle.std.proofs.lemmas.Bool.Decides.{nat_tests}
+use Rattle.std.proofs.Common.{◌≡◌, ℕ, ◌<◌, true, get_or, Some, None, sym, ap, ◌∙◌, subst, ⊎_elim, arith}
 use Rattle.standpoint.specs.declared.refusal.Refusal.TheVariants.{DoesNotFit}
 use Rattle.standpoint.specs.declared.sizes.Sizes.{Sizes}
 use Rattle.standpoint.specs.declared.statement.Statement.{Statement}
@@ -10,22 +9,17 @@ use Rattle.standpoint.specs.Statements.{Fits}
 use Rattle.standpoint.specs.Derivations.{Base, Derives}
 use Rattle.standpoint.proofs.Derived.{contradiction_underivable}
 use Rattle.standpoint.proofs.Lists.{in_stands, in_getD}
-use Rattle.runs.specs.declared.Stand.{Stand}
-use Rattle.runs.specs.declared.Stand.TheVariants.{Open, Ended, Full}
+use Rattle.runs.specs.declared.Stand.TheVariants.{Ended}
 use Rattle.runs.specs.Runs.{Settled, Unsettled, Stands}
 use Rattle.runs.proofs.Best.{settled_is_best, none_is_exact}
 use Rattle.saturation.specs.declared.table.Table.{Table}
-use Rattle.saturation.specs.declared.phase.Phase.TheVariants as phase
 use Rattle.saturation.specs.Phases.{is_begun, sizes_of}
 use Rattle.saturation.specs.Tables.{State, view, capacity, statement_at, turn_at, OpenAt}
 use Rattle.saturation.specs.Offering.{Apart}
 use Rattle.saturation.specs.Searching.{Lists}
-use Rattle.saturation.specs.Saturation.{Holds}
-use Rattle.saturation.proofs.Offers.{below_or, not_both, in_same}
+use Rattle.saturation.proofs.Offers.{not_both, in_same}
 use Rattle.saturation.proofs.Lists.{Fit}
-use Rattle.saturation.proofs.Counting.{not_full, some_open, all_closed}
-use Rattle.saturation.proofs.Lasting.{fits_capacity}
-use Rattle.reasoner.specs.Models.{Holding, taking, going, standing}
+use Rattle.reasoner.specs.Models.{Holding}
 use Rattle.reasoner.specs.declared.asking.Answer.{Answer}
 use Rattle.reasoner.specs.declared.asking.Answer.TheVariants.{Graded, Nothing, Pending}
 use Rattle.reasoner.specs.Asking.{Says, Askable, AskRefused, misfit, RowGraded, LeftOver}
@@ -34,9 +28,6 @@ use Rattle.reasoner.proofs.Holding.{Held, held}
 -- the facts of a table that its ghost fields hold
 fit_of : {G : Type 0} (t : Table G) → Fit (view t)
 fit_of t = (t.settled_fit, t.turns)
-
-few_rows : {G : Type 0} (t : Table G) → t.len ≤ capacity (view t)
-few_rows t = fits_capacity (view t) t.rows_fit t.grades_fit t.few
 
 module _ {G : Type 0} (s : State G) (l : Settled G) (is : Lists s l) (fit : Fit s) where
   -- a settled statement has a settled row
@@ -71,48 +62,7 @@ graded_row {G} s l is x g (i, within, holds, closed, grade) =
     let same_grade : (get_or l k (x, g)).1 ≡ g = sym (p.1 g) ∙ ap (λ (j : ℕ). get_or s.grades j g) b.2 ∙ grade g in
     in_same l (get_or l k (x, g)).0 x (get_or l k (x, g)).1 g same_statement same_grade (in_getD l k (x, g) (omega arith))
 
-pub ended_out : (m n : ℕ) → Ended ≡ cond (leb m n) Ended Open → m ≤ n
-ended_out m n is =
-    ⊎_elim
-    (λ lt. let no : leb m n ≡ false = grind (arith, nat_tests) in absurd (grind arith))
-    (λ le. le)
-    (below_or n m)
-
-pub other_room : (r : Stand) (m n : ℕ) → r ≡ cond (leb m n) Ended Open → (r ≡ Open) ⊎ (r ≡ Full) → n < m
-other_room r m n is other =
-    ⊎_elim
-    (λ lt. lt)
-    (λ le.
-    let yes : leb m n ≡ true = grind (arith, nat_tests) in
-    let ended : r ≡ Ended = is ∙ ap (λ (b : Bool). cond b Ended Open) yes in
-    absurd (⊎_elim (λ e. grind arith) (λ e. grind arith) other))
-    (below_or n m)
-
 module _ {G : Type 0} (a : Algebra G) (b : Base G) (t : Table G) where
-  -- every row is settled: the run stands ended
-  pub out_ended : {l : Settled G} → ((n : Sizes) → t.phase ≡ phase.Full n → ⊥) → t.len ≤ t.settled → Holding a b t l → Stands a b (capacity (view t)) l Ended
-  out_ended free out (taking (is, range, h)) = (not_full a b _ (view t) h (few_rows t), all_closed a b _ (view t) h (fit_of t) out)
-  out_ended free out (going (is, range, h)) = (not_full a b _ (view t) h (few_rows t), all_closed a b _ (view t) h (fit_of t) out)
-  out_ended free out (standing (is, range, h)) = absurd (free b.sizes is)
-
-  waiting_not_ended : {l : Settled G} → Holds a b l (view t) → t.settled < t.len → Stands a b (capacity (view t)) l Ended → ⊥
-  waiting_not_ended h room ended =
-      let w = some_open a b _ (view t) h (fit_of t) t.grades_fit room in
-      let m = ended.1 w.0 w.1.0 w.1.1 in
-      w.2 m.0 m.1
-
-  -- a row is not settled: the run does not stand ended
-  pub room_not_ended : {l : Settled G} → t.settled < t.len → Holding a b t l → Stands a b (capacity (view t)) l Ended → ⊥
-  room_not_ended room (taking (is, range, h)) ended = waiting_not_ended h room ended
-  room_not_ended room (going (is, range, h)) ended = waiting_not_ended h room ended
-  room_not_ended room (standing (is, range, h)) ended = ended.0 h.full
-
-  -- nor does one that stands full
-  pub full_not_ended : {l : Settled G} {n : Sizes} → t.phase ≡ phase.Full n → Holding a b t l → Stands a b (capacity (view t)) l Ended → ⊥
-  full_not_ended {n = n} full (taking (is, range, h)) ended = let e : phase.Taking b.sizes ≡ phase.Full n = sym is ∙ full in grind arith
-  full_not_ended {n = n} full (going (is, range, h)) ended = let e : phase.Running b.sizes ≡ phase.Full n = sym is ∙ full in grind arith
-  full_not_ended full (standing (is, range, h)) ended = ended.0 h.full
-
   -- a settled grade is the best, and if x is the contradiction, the base is unmeetable
   pub says_settled : Laws a → {l : Settled G} → Held a b t l → (x : Statement) (g : G) → In l (x, g) → Says a b l (capacity (view t)) x (Graded g)
   says_settled laws {l} h x g m =

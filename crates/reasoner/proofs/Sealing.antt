@@ -1,57 +1,70 @@
 -- A settle seals the base and goes on with the run.
-use Rattle.std.proofs.Common.{◌≡◌, ℕ, Bool, true, false, ◌++◌, refl, sym, ap, ◌∙◌, subst}
+use Rattle.std.proofs.Common.{◌≡◌, ℕ, ◌≤◌, true, false, [], ◌++◌, Ok, Err, Result, refl, sym, ap, ◌∙◌, subst}
+use borrow.Author.Tests.{both_ways}
+use Rattle.standpoint.specs.declared.refusal.Refusal.{Refusal}
+use Rattle.standpoint.specs.declared.sizes.Sizes.{Sizes}
 use Rattle.standpoint.specs.Sizes.{InRange}
 use Rattle.standpoint.specs.Algebra.{Algebra}
 use Rattle.standpoint.specs.Derivations.{Base}
-use Rattle.runs.specs.Runs.{Settled, Settling, Stands}
+use Rattle.runs.specs.Runs.{Settled}
 use Rattle.runs.specs.declared.Stand.{Stand}
 use Rattle.runs.specs.declared.Stand.TheVariants.{Open, Ended, Full}
-use Rattle.saturation.specs.declared.phase.Phase.{Phase}
-use Rattle.saturation.specs.declared.phase.Phase.TheVariants.{Running}
 use Rattle.saturation.specs.declared.table.Table.{Table}
-use Rattle.saturation.specs.Phases.{sizes_of, sealed_run, sealed_phase}
-use Rattle.saturation.specs.Tables.{State, view, capacity, Same}
-use Rattle.saturation.specs.Saturation.{Holds, HoldsAs, Settles}
-use Rattle.reasoner.specs.Models.{StandsFor}
-use Rattle.reasoner.specs.Calls.{model_after, SettlesOn}
+use Rattle.saturation.specs.Phases.{is_begun, sizes_of, stands_full, phase_of}
+use Rattle.saturation.specs.Tables.{view, capacity}
+use Rattle.saturation.proofs.Leaving.{leaves_capacity}
+use Rattle.saturation.specs.Saturation.{Holds, HoldsFull, HoldsAs, Settles, SettledRows, TableSettles}
+use Rattle.saturation.specs.Saturation.SettledRows.{stood_full, went_on}
+use Rattle.reasoner.specs.Models.{stopped, StandsFor}
+use Rattle.reasoner.specs.Calls.{model_after, SettlesOn, SettledSo}
 
-abbrev pub is_full : Stand → Bool
-is_full Open = false
-is_full Ended = false
-is_full Full = true
+-- a run that stands so is stood for in the phase that tells it
+stands_for_after : {G : Type 0} (al : Algebra G) (b : Base G) (l : Settled G) (t : Table G) (stand : Stand) → t.phase ≡ phase_of b.sizes stand → InRange b.sizes → HoldsAs al b l (view t) stand → StandsFor al (model_after b l stand) t
+stands_for_after al b l t Open is range h = (is, range, h)
+stands_for_after al b l t Ended is range h = (is, range, h)
+stands_for_after al b l t Full is range h = (is, range, h)
 
-pub not_full : (stand : Stand) → (stand ≡ Full → ⊥) → is_full stand ≡ false
-not_full Open other = refl
-not_full Ended other = refl
-not_full Full other = absurd (other refl)
+-- a table that does not stand full has the phase of how it stands after a settle
+phase_told : {G : Type 0} (s t : Table G) (count : ℕ) (stand : Stand) → stands_full s.phase ≡ false → SettledRows s t count stand → t.phase ≡ phase_of (sizes_of s.phase) stand
+phase_told s t _ _ free (stood_full full same phase) = absurd (both_ways _ free full)
+phase_told s t _ _ free (went_on still phase rows) = phase
 
--- the phase of a run that stands so
-phase_after : {G : Type 0} (al : Algebra G) (b : Base G) (l : Settled G) (v : Table G) (stand : Stand) →
-    v.phase ≡ sealed_run b.sizes (is_full stand) → InRange b.sizes → HoldsAs al b l (view v) stand → StandsFor al (model_after b l stand) v
-phase_after al b l v Open is range h = (is, range, h)
-phase_after al b l v Ended is range h = (is, range, h)
-phase_after al b l v Full is range h = (is, range, h)
+-- and one that does is left as it is
+left_full : {G : Type 0} (s t : Table G) (count : ℕ) (stand : Stand) → stands_full s.phase ≡ true → SettledRows s t count stand → (count ≡ 0) × (stand ≡ Full) × (view t ≡ view s) × (t.phase ≡ s.phase)
+left_full s t _ _ full (stood_full still same phase) = (refl, refl, same, phase)
+left_full s t _ _ full (went_on free phase rows) = absurd (both_ways _ free full)
 
-module _ {G : Type 0} (al : Algebra G) (n count : ℕ) (stand : Stand) (s t u v : Table G)
-    (sealed_view : view t ≡ view s) (sealed : t.phase ≡ sealed_phase s.phase false) (same : Same t u)
-    (settles : Settles al (sizes_of t.phase).individuals (view t) (view u) n count stand)
-    (last_view : view v ≡ view u) (last : v.phase ≡ sealed_phase u.phase (is_full stand)) where
-  pub settled_on : (b : Base G) (l : Settled G) → sealed_phase s.phase false ≡ Running b.sizes → InRange b.sizes → Holds al b l (view s) → SettlesOn al n b l s v count stand
-  settled_on b l is range h =
-      let runs : t.phase ≡ Running b.sizes = sealed ∙ is in
-      let sizes : b.sizes.individuals ≡ (sizes_of t.phase).individuals = sym (ap (λ (p : Phase). (sizes_of p).individuals) runs) in
-      let w = settles b sizes l (subst (Holds al b l) (sym sealed_view) h) in
-      let rows : capacity (view t) ≡ capacity (view s) = ap capacity sealed_view in
-      let ends : v.phase ≡ sealed_run b.sizes (is_full stand) = last ∙ ap (λ (p : Phase). sealed_phase p (is_full stand)) (same.2 ∙ runs) in (
-        w.0,
-        (
-          w.1.0,
-          (
-            subst (λ (m : ℕ). Settling al b m n l w.0) rows w.1.1.0,
-            (
-              subst (λ (m : ℕ). Stands al b m (l ++ w.0) stand) rows w.1.1.1.0,
-              phase_after al b (l ++ w.0) v stand ends range (subst (λ (z : State G). HoldsAs al b (l ++ w.0) z stand) (sym last_view) w.1.1.1.1),
-            ),
-          ),
-        ),
-      )
+module _ {G : Type 0} (al : Algebra G) (n : ℕ) (s t : Table G) (r : ℕ × Stand) (rows : SettledRows s t r.0 r.1)
+    (run : stands_full s.phase ≡ false → Settles al (sizes_of s.phase).individuals (view s) (view t) n r.0 r.1) where
+  pub settles_on : (b : Base G) (l : Settled G) → stands_full s.phase ≡ false → sizes_of s.phase ≡ b.sizes → InRange b.sizes → Holds al b l (view s) → SettlesOn al n b l s t r.0 r.1
+  settles_on b l free sizes range h =
+      let w = run free b (sym (ap (λ (m : Sizes). m.individuals) sizes)) l h in
+      let phase = phase_told s t r.0 r.1 free rows ∙ ap (λ (m : Sizes). phase_of m r.1) sizes in
+      (w.0, (w.1.0, (w.1.1.0, (w.1.1.1.0, stands_for_after al b (l ++ w.0) t r.1 phase range w.1.1.1.1))))
+
+  pub stays_full : (b : Base G) (l : Settled G) → StandsFor al (stopped b l) s → (r.0 ≡ 0) × (r.1 ≡ Full) × StandsFor al (stopped b l) t
+  stays_full b l h =
+      let left = left_full s t r.0 r.1 (ap stands_full h.0) rows in
+      (left.0, left.1, (left.3 ∙ h.0, h.1, subst (HoldsFull al b l) (sym left.2) h.2))
+
+  pub settled_so : is_begun s.phase ≡ true → r.0 ≤ n → SettledSo al n s t (Ok r)
+  settled_so begun within = (
+    begun,
+    λ b h. settles_on b [] (ap stands_full h.0) (ap sizes_of h.0) h.1 h.2,
+    λ b l h. settles_on b l (ap stands_full h.0) (ap sizes_of h.0) h.1 h.2,
+    stays_full,
+    within,
+    rows,
+  )
+
+pub settles_as_table : {G : Type 0} (al : Algebra G) (n : ℕ) (s t : Table G) (r : Result (ℕ × Stand) Refusal) → TableSettles al n s t r → SettledSo al n s t r
+settles_as_table al n s t (Ok r) h = settled_so al n s t r h.2 h.3 h.0 h.1
+settles_as_table al n s t (Err e) h = ((h.0, h.1), h.2, h.3)
+
+pub settles_long : {G : Type 0} (al : Algebra G) (n : ℕ) (s t : Table G) (r : Result (ℕ × Stand) Refusal) → TableSettles al n s t r → capacity (view t) ≡ capacity (view s)
+settles_long al n s t (Ok r) h = rows_long s t r.0 r.1 h.2
+  where
+    rows_long : {G : Type 0} (s t : Table G) (count : ℕ) (stand : Stand) → SettledRows s t count stand → capacity (view t) ≡ capacity (view s)
+    rows_long s t _ _ (stood_full full same phase) = ap capacity same
+    rows_long s t _ _ (went_on free phase rows) = leaves_capacity rows.leaves
+settles_long al n s t (Err e) h = ap capacity h.0

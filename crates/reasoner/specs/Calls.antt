@@ -16,7 +16,10 @@ use Rattle.runs.specs.Runs.{Settled, Known, Settling, Stands}
 use Rattle.saturation.specs.declared.table.Table.{Table}
 use Rattle.saturation.specs.declared.phase.Phase.TheVariants.{Taking}
 use Rattle.saturation.specs.Phases.{is_begun, is_sealed}
+use Rattle.saturation.specs.Rows.{kept}
 use Rattle.saturation.specs.Tables.{view, capacity, has_room, Absent}
+use Rattle.saturation.specs.Memory.{Leaves, KeepsSettled, Offered}
+use Rattle.saturation.specs.Saturation.{SettledRows}
 use Rattle.reasoner.specs.Models.{Model, based, running, stopped, empty_base, accepting, StandsFor}
 
 -- everything is as it was
@@ -25,7 +28,7 @@ Unchanged s t = (view t ≡ view s) × (t.phase ≡ s.phase)
 
 -- begin drops everything and starts with the tautologies; it refuses sizes out of range, then too few rows
 abbrev pub Begun : {G : Type 0} → Algebra G → Sizes → Table G → Table G → Result (Unit {0}) Refusal → Type 0
-Begun a n s t (Ok _) = InRange n × (length (tautologies n) ≤ capacity (view s)) × StandsFor a (based (empty_base n)) t
+Begun a n s t (Ok _) = InRange n × (length (tautologies n) ≤ capacity (view s)) × StandsFor a (based (empty_base n)) t × Leaves (view s) (view t)
 Begun a n s t (Err e) =
     Unchanged s t × (((e ≡ SizesOutOfRange) × (InRange n → ⊥)) ⊎ ((e ≡ TooFewRows) × InRange n × (capacity (view s) < length (tautologies n))))
 
@@ -41,11 +44,19 @@ pub data AddRefused {G : Type 0} (s : Table G) (x : Statement) : Refusal → Typ
 abbrev pub AllRowsTaken : {G : Type 0} → Algebra G → Base G → ℕ → Type 0
 AllRowsTaken a base rows = (xs : List Statement) × Distinct xs × ((x : Statement) → In xs x → Known a base [] x) × (rows ≤ length xs)
 
+-- what a performed add makes of any reasoner: the row that holds the statement is new, has a better grade, or is as it was
+pub record AddsRow {G : Type 0} (a : Algebra G) (x : Statement) (g : G) (s t : Table G) : Type 0 where
+  pub phase : t.phase ≡ s.phase
+  pub row : Offered a (view s) (view t) x g (kept 0 0 0 0) true
+  pub leaves : Leaves (view s) (view t)
+  pub kept_settled : KeepsSettled (view s) (view t)
+
 -- what add makes of a base: one statement more, or it is refused since it is new and all rows are taken
 abbrev pub Adds : {G : Type 0} → Algebra G → Statement → G → Table G → Table G → Result (Unit {0}) Refusal → Type 0
 Adds {G} a x g s t (Ok _) =
     ((n : Sizes) × (s.phase ≡ Taking n) × Fits n x × (Misplaced n.individuals x → ⊥))
     × ((b : Base G) → StandsFor a (based b) s → StandsFor a (based (accepting b x g)) t)
+    × AddsRow a x g s t
 Adds {G} a x g s t (Err e) =
     Unchanged s t × AddRefused s x e
     × ((b : Base G) → StandsFor a (based b) s → e ≡ RowsTaken → (Known a b [] x → ⊥) × AllRowsTaken a b (capacity (view s)))
@@ -69,4 +80,5 @@ SettledSo {G} a n s t (Ok r) =
     × ((b : Base G) → StandsFor a (based b) s → SettlesOn a n b [] s t r.0 r.1)
     × ((b : Base G) (l : Settled G) → StandsFor a (running b l) s → SettlesOn a n b l s t r.0 r.1)
     × ((b : Base G) (l : Settled G) → StandsFor a (stopped b l) s → (r.0 ≡ 0) × (r.1 ≡ Full) × StandsFor a (stopped b l) t)
+    × (r.0 ≤ n) × SettledRows s t r.0 r.1
 SettledSo a n s t (Err e) = Unchanged s t × (e ≡ NotBegun) × (is_begun s.phase ≡ false)

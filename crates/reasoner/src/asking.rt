@@ -3,7 +3,7 @@ ghost use Rattle.saturation.specs.Tables.{view};
 ghost use Rattle.reasoner.specs.Asking.{Asked, RowGraded, LeftOver};
 
 use runs::Stand;
-use saturation::{Phase, Table};
+use saturation::Table;
 use standpoint::{Refusal, Statement};
 
 // What ask answers.
@@ -47,9 +47,6 @@ fn settled_grade<G: Clone + Copy + Drop>(reasoner: &Table<'_, G>, statement: Sta
 fn without_grade<G: Clone + Copy + Drop>(reasoner: &Table<'_, G>) -> Answer<G>
     ensures { LeftOver reasoner.now result }
 {
-    if let Phase::Full(_) = reasoner.phase {
-        return Answer::Pending;
-    }
     match reasoner.stand() {
         Stand::Ended => Answer::Nothing,
         Stand::Open | Stand::Full => Answer::Pending,

@@ -3,6 +3,7 @@
 ghost use Rattle.saturation.specs.Tables.{view, capacity, OverSame, Same};
 ghost use Rattle.reasoner.specs.Calls.{Begun, Adds, SettledSo};
 ghost use Rattle.std.specs.Prelude.{◌≡◌};
+ghost use Rattle.saturation.specs.Offering.{Grown};
 ghost use Rattle.reasoner.specs.Filling.{Takes};
 
 use runs::Stand;
@@ -37,7 +38,7 @@ pub fn begin<K: Kind>(
 // Takes one tautology at the start grade.
 fn take_tautology<K: Kind>(reasoner: &mut Table<'_, K::Grade>, kind: &K, x: Statement)
     ensures same { Same reasoner.old reasoner.new }
-    ensures long { capacity (view reasoner.new) ≡ capacity (view reasoner.old) }
+    ensures grown { Grown (view reasoner.old) (view reasoner.new) }
     ensures taken { Takes (K.Kind.algebra kind.now) x (view reasoner.old) (view reasoner.new) }
 {
     let start = kind.start();
@@ -87,14 +88,5 @@ pub fn settle<K: Kind>(
     ensures long { capacity (view reasoner.new) ≡ capacity (view reasoner.old) }
     ensures answer { SettledSo (K.Kind.algebra kind.now) n reasoner.old reasoner.new result }
 {
-    match reasoner.phase {
-        Phase::Idle => return Err(Refusal::NotBegun),
-        Phase::Full(_) => return Ok((0, Stand::Full)),
-        Phase::Taking(_) | Phase::Running(_) => {}
-    }
-    reasoner.seal(false);
-    let (count, stand) = reasoner.settle(kind, n);
-    let full = matches!(stand, Stand::Full);
-    reasoner.seal(full);
-    Ok((count, stand))
+    reasoner.settle(kind, n)
 }

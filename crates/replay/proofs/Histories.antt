@@ -5,7 +5,6 @@ use Rattle.standpoint.specs.declared.refusal.Refusal.{Refusal}
 use Rattle.standpoint.specs.declared.sizes.Sizes.{Sizes}
 use Rattle.standpoint.specs.declared.statement.Statement.{Statement}
 use Rattle.standpoint.specs.declared.step.Step.{Step}
-use Rattle.standpoint.specs.Lists.{In}
 use Rattle.standpoint.specs.Algebra.{Algebra}
 use Rattle.standpoint.specs.Derivations.{Base}
 use Rattle.runs.specs.declared.Stand.{Stand}
@@ -13,9 +12,9 @@ use Rattle.runs.specs.declared.Stand.TheVariants.{Full}
 use Rattle.runs.specs.Runs as runs
 use Rattle.saturation.specs.declared.table.Table.{Table}
 use Rattle.saturation.specs.Phases.{is_begun, is_sealed}
-use Rattle.saturation.specs.Tables.{State}
+use Rattle.saturation.specs.Tables.{State, view}
+use Rattle.saturation.specs.Memory.{KeepsSettled}
 use Rattle.saturation.specs.Saturation.{Holds, HoldsFull}
-use Rattle.saturation.proofs.Lists.{in_append_left}
 use Rattle.reasoner.specs.declared.asking.Answer.{Answer}
 use Rattle.reasoner.specs.Models.{based, running, stopped, accepting, StandsFor, Holding, taking, going, standing}
 use Rattle.reasoner.specs.Calls.{Unchanged, Begun, Adds, SettledSo, SettlesOn}
@@ -25,21 +24,22 @@ use Rattle.replay.specs.declared.call.Call.TheVariants.{Begin, Add, Settle, Ask,
 use Rattle.replay.specs.declared.call.Done.TheVariants.{Began, Added, Settled, Said, Explained}
 use Rattle.replay.specs.Pasts.{Outcome, Past, after}
 use Rattle.replay.specs.Performing.{as_outcome, Performs}
+use Rattle.replay.proofs.Kept.{unchanged_keep, adds_keep, settles_keep}
 
 -- nothing was begun yet, or the reasoner holds a run over what the past accepted
 pub data Tied {G : Type 0} (a : Algebra G) (p : Past G) (t : Table G) : Type 0 where
-  not_yet : p.begins ≡ 0 → is_begun t.phase ≡ false → Tied a p t
+  not_yet : p.begins ≡ 0 → p.settled ≡ 0 → is_begun t.phase ≡ false → Tied a p t
   begun : (l : runs.Settled G) → 0 < p.begins → Holding a p.base t l → length l ≡ p.settled → Tied a p t
 
 abbrev pub settled_in : {G : Type 0} {a : Algebra G} {p : Past G} {t : Table G} → Tied a p t → runs.Settled G
-settled_in (not_yet none asleep) = []
+settled_in (not_yet none unsettled asleep) = []
 settled_in (begun l some holding count) = l
 
--- what is settled stays settled, over the same base, until the next begin
+-- what is settled is kept until the next begin
 pub record GoesOn {G : Type 0} (a : Algebra G) {p : Past G} {s : Table G} (old : Tied a p s) (q : Past G) (t : Table G) : Type 0 where
   pub tied : Tied a q t
   pub begins : p.begins ≤ q.begins
-  pub stays : q.begins ≡ p.begins → (o : Statement × G) → In (settled_in old) o → In (settled_in tied) o × (q.base ≡ p.base)
+  pub keeps : q.begins ≡ p.begins → KeepsSettled (view s) (view t)
 
 module _ {G : Type 0} (a : Algebra G) where
   unchanged_holding : {b : Base G} {s t : Table G} {l : runs.Settled G} → Unchanged s t → Holding a b s l → Holding a b t l
@@ -49,41 +49,39 @@ module _ {G : Type 0} (a : Algebra G) where
 
   -- a call that changes nothing
   still : {p : Past G} {s t : Table G} (old : Tied a p s) → Unchanged s t → GoesOn a old p t
-  still (not_yet none asleep) same = record {
-    tied = not_yet none (ap is_begun same.1 ∙ asleep);
+  still {s = s} {t} (not_yet none unsettled asleep) same = record {
+    tied = not_yet none unsettled (ap is_begun same.1 ∙ asleep);
     begins = omega arith;
-    stays = λ e o m. (m, refl);
+    keeps = λ e. unchanged_keep s t same;
   }
-  still (begun l some holding count) same = record {
+  still {s = s} {t} (begun l some holding count) same = record {
     tied = begun l some (unchanged_holding same holding) count;
     begins = omega arith;
-    stays = λ e o m. (m, refl);
+    keeps = λ e. unchanged_keep s t same;
   }
 
   begin_on : {p : Past G} {s t : Table G} (old : Tied a p s) (n : Sizes) (r : Result (Unit {0}) Refusal) → Begun a n s t r → GoesOn a old (after p (Begin n) (as_outcome (λ _. Began) r)) t
   begin_on old n (Ok _) made = record {
     tied = begun [] (omega arith) (taking made.2) refl;
     begins = omega arith;
-    stays = λ e. absurd (omega arith);
+    keeps = λ e. absurd (omega arith);
   }
   begin_on old n (Err e) made = still old made.0
 
   -- only a base that takes statements accepts one more
   accepted_on : {b : Base G} {s t : Table G} {l : runs.Settled G} (x : Statement) (g : G) → is_sealed s.phase ≡ false →
-      ((c : Base G) → StandsFor a (based c) s → StandsFor a (based (accepting c x g)) t) → Holding a b s l → Holding a (accepting b x g) t l × ((o : Statement × G) → In l o → ⊥)
-  accepted_on {b} x g free more (taking h) = (taking (more b h), λ o m. m)
+      ((c : Base G) → StandsFor a (based c) s → StandsFor a (based (accepting c x g)) t) → Holding a b s l → Holding a (accepting b x g) t l
+  accepted_on {b} x g free more (taking h) = taking (more b h)
   accepted_on x g free more (going h) = absurd (both_ways _ free (ap is_sealed h.0))
   accepted_on x g free more (standing h) = absurd (both_ways _ free (ap is_sealed h.0))
 
   add_on : {p : Past G} {s t : Table G} (old : Tied a p s) (x : Statement) (g : G) (r : Result (Unit {0}) Refusal) → Adds a x g s t r → GoesOn a old (after p (Add x g) (as_outcome (λ _. Added) r)) t
-  add_on (not_yet none asleep) x g (Ok _) made = absurd (both_ways _ asleep (ap is_begun made.0.1))
-  add_on (begun l some holding count) x g (Ok _) made =
-      let on = accepted_on x g (ap is_sealed made.0.1) made.1 holding in
-      record {
-        tied = begun l some on.0 count;
-        begins = omega arith;
-        stays = λ e o m. absurd (on.1 o m);
-      }
+  add_on (not_yet none unsettled asleep) x g (Ok _) made = absurd (both_ways _ asleep (ap is_begun made.0.1))
+  add_on {s = s} {t} (begun l some holding count) x g (Ok r) made = record {
+    tied = begun l some (accepted_on x g (ap is_sealed made.0.1) made.1 holding) count;
+    begins = omega arith;
+    keeps = λ e. adds_keep a s t x g r made;
+  }
   add_on old x g (Err e) made = still old made.0
 
   -- more is settled behind what was
@@ -100,13 +98,13 @@ module _ {G : Type 0} (a : Algebra G) where
 
   settle_on : {p : Past G} {s t : Table G} (old : Tied a p s) (n : ℕ) (r : Result (ℕ × Stand) Refusal) → SettledSo a n s t r →
       GoesOn a old (after p (Settle n) (as_outcome (λ (q : ℕ × Stand). Settled q.0 q.1) r)) t
-  settle_on (not_yet none asleep) n (Ok r) made = absurd (both_ways _ asleep made.0)
-  settle_on {p} (begun l some holding count) n (Ok r) made =
+  settle_on (not_yet none unsettled asleep) n (Ok r) made = absurd (both_ways _ asleep made.0)
+  settle_on {p} {s} {t} (begun l some holding count) n (Ok r) made =
       let on = settled_more n r.0 r.1 made.1 made.2 made.3 holding in
       record {
         tied = begun (l ++ on.0) some on.2 (length-append l on.0 ∙ (let e = on.1 in let f : length l + length on.0 ≡ p.settled + r.0 = omega arith in f));
         begins = omega arith;
-        stays = λ e o m. (in_append_left l on.0 o m, refl);
+        keeps = λ e. settles_keep a s t n r made;
       }
   settle_on old n (Err e) made = still old made.0
 

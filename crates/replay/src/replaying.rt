@@ -1,9 +1,11 @@
 // A whole list of calls on a new reasoner.
 ghost use Rattle.std.specs.Prelude.{◌≡◌, ℕ, ◌<◌, ◌≤◌, min, length, take, drop, slice_set};
-ghost use Rattle.saturation.specs.Tables.{view, capacity, OverSame};
+ghost use Rattle.saturation.specs.Rows.{rows_in};
+ghost use Rattle.saturation.specs.Tables.{view, fresh, capacity, OverSame};
+ghost use Rattle.saturation.specs.Memory.{SameBeyond};
 ghost use Rattle.reasoner.specs.Calls.{Unchanged};
-ghost use Rattle.replay.specs.Pasts.{steps_of};
-ghost use Rattle.replay.specs.Replays.{rows_in, Replayed, GradesAreBest, GradesAreExplained, ExplanationsPass, NothingIsExact, GradedContradictionExcludes};
+ghost use Rattle.replay.specs.Pasts.{steps_of, written};
+ghost use Rattle.replay.specs.Replays.{Replayed, GradesAreBest, ExplanationsAreOne, NothingIsExact, GradedContradictionExcludes};
 ghost use Rattle.replay.specs.Performing.{ExplainsWithin, Performs, Performed};
 
 use crate::call::{Call, Done};
@@ -24,10 +26,11 @@ pub fn replay<K: Kind>(
 ) -> usize
     ensures count { result ≡ min (length calls.now) (length outcomes.old) }
     ensures later { drop result outcomes.new ≡ drop result outcomes.old }
+    ensures memory { SameBeyond (fresh rows.old grades.old) (fresh rows.new grades.new) }
     ensures performed { Replayed (K.Kind.algebra kind.now) rows.old grades.old calls.now outcomes.new steps.old result rows.new grades.new steps.new }
     ensures best { GradesAreBest (K.Kind.algebra kind.now) calls.now outcomes.new result }
-    ensures explained { GradesAreExplained (K.Kind.algebra kind.now) calls.now outcomes.new result steps.new }
-    ensures passes { ExplanationsPass (K.Kind.algebra kind.now) calls.now outcomes.new result steps.new }
+    ensures explained { ExplanationsAreOne (K.Kind.algebra kind.now) calls.now outcomes.new result steps.new }
+    ensures behind { drop (written outcomes.new result) steps.new ≡ drop (written outcomes.new result) steps.old }
     ensures nothing { NothingIsExact (K.Kind.algebra kind.now) calls.now outcomes.new result (rows_in rows.old grades.old) }
     ensures excludes { GradedContradictionExcludes (K.Kind.algebra kind.now) calls.now outcomes.new result }
 {

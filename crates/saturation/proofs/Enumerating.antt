@@ -1,8 +1,8 @@
 -- The loops of a search find each offer that uses the newest settled statement.
-use Rattle.std.proofs.Common.{◌≡◌, ◌≢◌, ℕ, ◌+◌, ◌<◌, ◌≤◌, Bool, true, false, ◌==◌, cond, List, [], ◌∷◌, length, None, sym, refl, ap, ◌∙◌, subst, inl, inr, ⊎_elim, arith}
+use Rattle.std.proofs.Common.{◌≡◌, ℕ, ◌+◌, ◌<◌, ◌≤◌, Bool, true, false, ◌==◌, cond, List, [], ◌∷◌, length, None, sym, refl, ap, ◌∙◌, subst, inl, inr, ⊎_elim, arith}
 use Rattle.std.proofs.lemmas.Bool.Decides.{nat_tests}
 use Rattle.standpoint.specs.declared.statement.Statement.{Statement}
-use Rattle.standpoint.specs.Lists.{In}
+use Rattle.standpoint.specs.Lists.{In, Tells}
 use Rattle.standpoint.specs.Algebra.{Algebra}
 use Rattle.standpoint.specs.Rules.{arity_of}
 use Rattle.saturation.specs.declared.places.Position.{Position}
@@ -11,14 +11,19 @@ use Rattle.saturation.specs.declared.lane.Lane.{Lane}
 use Rattle.saturation.specs.Sides.{settled_at}
 use Rattle.saturation.specs.Lanes.{Within, when, takes, beside, last_lane}
 use Rattle.saturation.specs.Tables.{State, statement_at, turn_at}
-use Rattle.saturation.specs.Places.{Step, Uses}
-use Rattle.saturation.specs.Searching.{Went, OnLane, paired, arranged, Lasts, Around}
+use Rattle.saturation.specs.declared.places.Places.{Places}
+use Rattle.saturation.specs.Places.{Step, Uses, listed_places}
+use Rattle.saturation.specs.Searching.{Went, OnLane, SettledPlaces, paired, arranged, seated}
 use Rattle.saturation.proofs.Lists.{Fit}
 use Rattle.saturation.proofs.Numbering.{nth_position}
 use Rattle.saturation.proofs.Stepping.{step_long, step_few, value_at}
 use Rattle.saturation.proofs.Walking.{From, within_listed}
-use Rattle.saturation.proofs.Partners.{At, partners, partner_found, last_found}
+use Rattle.saturation.proofs.Partners.{At, Around, partners, partner_found, last_found}
 use Rattle.saturation.proofs.Searches.{Family, Below, went_as, went_more, went_none}
+
+told : (b : Bool) {P : Type 0} → Tells b P → P → b ≡ true
+told true tells p = refl
+told false tells p = absurd (tells p)
 
 in_paired : (position : Position) (n i : ℕ) → In (paired position n i) n
 in_paired First n i = inl refl
@@ -34,19 +39,35 @@ in_arranged rule Second n i j = middle (rule == 14)
     middle false = inr (inl refl)
 in_arranged rule Third n i j = inr (inr (inl refl))
 
-length_paired : (position : Position) (n i : ℕ) → length (paired position n i) ≡ 2
-length_paired First n i = refl
-length_paired Second n i = refl
-length_paired Third n i = refl
-
-length_arranged : (rule : ℕ) (position : Position) (n i j : ℕ) → length (arranged rule position n i j) ≡ 3
-length_arranged rule First n i j = refl
-length_arranged rule Second n i j = middle (rule == 14)
+in_seated : (rule : ℕ) (position : Position) (n i j : ℕ) → In (seated rule position n i j) n
+in_seated rule position n i j = by_count (arity_of rule == 1) (arity_of rule == 2)
   where
-    middle : (b : Bool) → length (cond b (i ∷ n ∷ j ∷ []) (j ∷ n ∷ i ∷ [])) ≡ 3
-    middle true = refl
-    middle false = refl
-length_arranged rule Third n i j = refl
+    by_count : (one two : Bool) → In (cond one (n ∷ []) (cond two (paired position n i) (arranged rule position n i j))) n
+    by_count true two = inl refl
+    by_count false true = in_paired position n i
+    by_count false false = in_arranged rule position n i j
+
+pub seated_settled : (rule : ℕ) (position : Position) (m n i j : ℕ) → n < m → i < m → j < m → SettledPlaces m (seated rule position n i j)
+seated_settled rule position m n i j in_n in_i in_j = by_count (arity_of rule == 1) (arity_of rule == 2)
+  where
+    two : (p : Position) → SettledPlaces m (paired p n i)
+    two First = (in_n, (in_i, tt))
+    two Second = (in_i, (in_n, tt))
+    two Third = (in_i, (in_n, tt))
+
+    middle : (b : Bool) → SettledPlaces m (cond b (i ∷ n ∷ j ∷ []) (j ∷ n ∷ i ∷ []))
+    middle true = (in_i, (in_n, (in_j, tt)))
+    middle false = (in_j, (in_n, (in_i, tt)))
+
+    three : (p : Position) → SettledPlaces m (arranged rule p n i j)
+    three First = (in_n, (in_j, (in_i, tt)))
+    three Second = middle (rule == 14)
+    three Third = (in_i, (in_j, (in_n, tt)))
+
+    by_count : (one more : Bool) → SettledPlaces m (cond one (n ∷ []) (cond more (paired position n i) (arranged rule position n i j)))
+    by_count true more = (in_n, tt)
+    by_count false true = two position
+    by_count false false = three position
 
 module _ {G : Type 0} (al : Algebra G) (v : ℕ) where
   -- all that uses what is settled at n
@@ -62,71 +83,38 @@ module _ {G : Type 0} (al : Algebra G) (v : ℕ) where
   went_off s lane k F May off = went_none al v s _ May (λ l is o b. off (within_listed s l is lane k b.0))
 
   module _ (rule : ℕ) (position : Position) (n : ℕ) where
-    -- what is given with n, i and the last one at j
+    -- what is given with n, its partner i and the last one at j
     abbrev pub Last : ℕ → ℕ → Family G
-    Last i j l o = Step al v l rule (arranged rule position n i j) o
-
-    abbrev pub LastsOf : ℕ → Family G
-    LastsOf i = Lasts al v rule position n i
+    Last i j l o = Step al v l rule (seated rule position n i j) o
 
     abbrev pub AroundAt : ℕ → Family G
-    AroundAt i = Around al v rule position n i
+    AroundAt i l o = Around al v rule l o position n i
 
     -- all that is given with n at this position
     abbrev pub Beside : Family G
     Beside l o = (places : List ℕ) × At position places n × Step al v l rule places o
 
     last_uses : (i j : ℕ) (l : List (Statement × G)) (o : Statement × G) → Last i j l o → Uses al v l n o
-    last_uses i j l o = step_uses n rule (arranged rule position n i j) l o (in_arranged rule position n i j)
+    last_uses i j l o = step_uses n rule (seated rule position n i j) l o (in_seated rule position n i j)
 
     -- one last premise
-    pub went_last : (s t : State G) (F : Family G) (i j : ℕ) (r : Bool) → Went al v s t F (Last i j) r → Went al v s t F (Using n) r
-    went_last s t F i j r x = went_as al v s t F F (Last i j) (Using n) r (λ l is o b. b) (λ l is o w. last_uses i j l o w) x
+    pub went_along : (s t : State G) (lane : Lane) (i j : ℕ) (r : Bool) (places : Places) → listed_places places ≡ seated rule position n i j →
+        Went al v s t (λ l o. OnLane lane l j × Step al v l rule (listed_places places) o) (λ l. Step al v l rule (listed_places places)) r → Went al v s t (λ l o. OnLane lane l j × Last i j l o) (Using n) r
+    went_along s t lane i j r places is x =
+        went_as al v s t (λ l o. OnLane lane l j × Last i j l o) (λ l o. OnLane lane l j × Last i j l o) (Last i j) (Using n) r (λ l is o b. b) (λ l is o w. last_uses i j l o w)
+        (subst (λ (ks : List ℕ). Went al v s t (λ l o. OnLane lane l j × Step al v l rule ks o) (λ l. Step al v l rule ks) r) is x)
 
-    -- the walk along the lane of the last ones has ended
-    pub went_lasts : (s t : State G) (x y : Statement) (i : ℕ) → n < s.settled → i < s.settled → x ≡ statement_at s (turn_at s n) → y ≡ statement_at s (turn_at s i) →
-        Went al v s t (From (last_lane rule position x y) (Last i) None) (Using n) true → Went al v s t (LastsOf i) (Using n) true
-    went_lasts s t x y i in_n in_i is_x is_y w =
-        went_as al v s t (From (last_lane rule position x y) (Last i) None) (LastsOf i) (Using n) (Using n) true
-        (λ l is o b. (b.0, last_found al v rule l o n x (λ d. sym (is_x ∙ (is.holds n in_n d).0)) i y (λ d. sym (is_y ∙ (is.holds i in_i d).0)) position b.0 b.2, tt, b.2))
+    -- the walk along the lane of the last ones has ended: there is none where the partner is not on its own
+    pub went_lasts : (s t : State G) (x y : Statement) (lane : Lane) (on : Bool) (i : ℕ) → n < s.settled → i < s.settled → x ≡ statement_at s (turn_at s n) → y ≡ statement_at s (turn_at s i) → Tells on (Within lane i (settled_at s.rows i)) →
+        Went al v s t (From (when on (last_lane rule position n x y)) (Last i) None) (Using n) true → Went al v s t (λ l o. OnLane lane l i × AroundAt i l o) (Using n) true
+    went_lasts s t x y lane on i in_n in_i is_x is_y tells w =
+        went_as al v s t (From (when on (last_lane rule position n x y)) (Last i) None) (λ l o. OnLane lane l i × AroundAt i l o) (Using n) (Using n) true
+        (λ l is o b.
+        let long = is.long in
+        let found = last_found al v rule l o n x (λ d. sym (is_x ∙ (is.holds n in_n d).0)) i y (λ d. sym (is_y ∙ (is.holds i in_i d).0)) position b.1.0 (omega arith) b.1.1 in
+        (found.0, subst (λ (c : Bool). OnLane (when c (last_lane rule position n x y)) l found.0) (sym (told on tells (within_listed s l is lane i b.0))) found.1, tt, found.2))
         (λ l is o u. u)
         w
-
-    -- how many premises tell which it is
-    alone_long : (l : List (Statement × G)) (o : Statement × G) → Step al v l rule (n ∷ []) o → arity_of rule ≡ 1
-    alone_long l o w = sym (step_long al v l rule (n ∷ []) o w)
-
-    pair_long : (i : ℕ) (l : List (Statement × G)) (o : Statement × G) → Step al v l rule (paired position n i) o → arity_of rule ≡ 2
-    pair_long i l o w = sym (step_long al v l rule (paired position n i) o w) ∙ length_paired position n i
-
-    lasts_long : (i : ℕ) (l : List (Statement × G)) (o : Statement × G) → LastsOf i l o → arity_of rule ≡ 3
-    lasts_long i l o w = sym (step_long al v l rule (arranged rule position n i w.0) o w.2) ∙ length_arranged rule position n i w.0
-
-    -- so each of them is all that is given around i by a rule with so many
-    around_as : (s t : State G) (lane : Lane) (i : ℕ) (A May : Family G) (r : Bool) → ((l : List (Statement × G)) (o : Statement × G) → AroundAt i l o → A l o) →
-        ((l : List (Statement × G)) (o : Statement × G) → May l o → Uses al v l n o) → Went al v s t A May r → Went al v s t (λ l o. OnLane lane l i × AroundAt i l o) (Using n) r
-    around_as s t lane i A May r only uses x = went_as al v s t A (λ l o. OnLane lane l i × AroundAt i l o) May (Using n) r (λ l is o b. only l o b.1) (λ l is o w. uses l o w) x
-
-    pub around_alone : (s t : State G) (lane : Lane) (i : ℕ) (r : Bool) → arity_of rule ≡ 1 → Went al v s t (λ l. Step al v l rule (n ∷ [])) (λ l. Step al v l rule (n ∷ [])) r →
-        Went al v s t (λ l o. OnLane lane l i × AroundAt i l o) (Using n) r
-    around_alone s t lane i r one =
-        around_as s t lane i _ _ r
-        (λ l o. ⊎_elim (λ w. w) (⊎_elim (λ w. let two = pair_long i l o w in absurd (let z : ⊥ = omega arith in z)) (λ w. let three = lasts_long i l o w in absurd (let z : ⊥ = omega arith in z))))
-        (λ l o w. step_uses n rule (n ∷ []) l o (inl refl) w)
-
-    pub around_pair : (s t : State G) (lane : Lane) (i : ℕ) (r : Bool) → arity_of rule ≡ 2 → Went al v s t (λ l. Step al v l rule (paired position n i)) (λ l. Step al v l rule (paired position n i)) r →
-        Went al v s t (λ l o. OnLane lane l i × AroundAt i l o) (Using n) r
-    around_pair s t lane i r two =
-        around_as s t lane i _ _ r
-        (λ l o. ⊎_elim (λ w. let one = alone_long l o w in absurd (let z : ⊥ = omega arith in z)) (⊎_elim (λ w. w) (λ w. let three = lasts_long i l o w in absurd (let z : ⊥ = omega arith in z))))
-        (λ l o w. step_uses n rule (paired position n i) l o (in_paired position n i) w)
-
-    pub around_lasts : (s t : State G) (lane : Lane) (i : ℕ) (r : Bool) → arity_of rule ≢ 1 → arity_of rule ≢ 2 → Went al v s t (LastsOf i) (Using n) r →
-        Went al v s t (λ l o. OnLane lane l i × AroundAt i l o) (Using n) r
-    around_lasts s t lane i r several more =
-        around_as s t lane i (LastsOf i) (Using n) r
-        (λ l o. ⊎_elim (λ w. absurd (several (alone_long l o w))) (⊎_elim (λ w. absurd (more (pair_long i l o w))) (λ w. w)))
-        (λ l o w. w)
 
     -- where the rule does not take its shape there, nothing is given
     pub went_untaken : (s : State G) (x : Statement) → n < s.settled → x ≡ statement_at s (turn_at s n) → takes rule position x.shape ≡ false → Went al v s s Beside (Using n) true

@@ -18,10 +18,6 @@ use Rattle.saturation.proofs.Counting.{not_full, some_open, all_closed}
 gt_leb : (m n : ℕ) → n < m → leb m n ≡ false
 gt_leb m n h = grind (arith, nat_tests)
 
--- the taken rows are within the capacity
-pub fits_capacity : {G : Type 0} (s : State G) → s.len ≤ length s.rows → s.len ≤ length s.grades → s.len ≤ 16777215 → s.len ≤ capacity s
-fits_capacity s a b c = omega arith
-
 -- what is settled later goes before any settling that goes on from there
 abbrev pub Extends : {G : Type 0} → Algebra G → Base G → ℕ → ℕ → Settled G → Settled G → Type 0
 Extends {G} al base rows k l later = (m : ℕ) (rest : Settled G) → Settling al base rows m (l ++ later) rest → Settling al base rows (k + m) l (later ++ rest)

@@ -3,6 +3,7 @@ pub mod Chaining
 pub mod Indexing
 pub mod Siding
 pub mod RowFacts
+pub mod Leaving
 pub mod Offers
 pub mod Lists
 pub mod Numbering
@@ -23,3 +24,4 @@ pub mod Taking
 pub mod Going
 pub mod Counting
 pub mod Lasting
+pub mod Sealing

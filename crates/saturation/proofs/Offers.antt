@@ -11,13 +11,16 @@ use Rattle.saturation.specs.declared.row.Row.{Row}
 use Rattle.standpoint.specs.Lists.{In}
 use Rattle.saturation.specs.Rows.{no_row}
 use Rattle.saturation.specs.Buckets.{bucket_of, headed}
-use Rattle.saturation.specs.Tables.{State, row_at, statement_at, Absent, has_room, pushed, improved, rekept}
+use Rattle.saturation.specs.Tables.{State, capacity, row_at, statement_at, Absent, has_room, pushed, improved, entry, rekept}
+use Rattle.saturation.specs.Memory.{content, ButRow, Sets, Offered}
+use Rattle.saturation.specs.Memory.Offered.{new, bettered}
 use Rattle.saturation.specs.Offering.{Apart, BestOf, Grown, Taken, Outdone, Keeps}
 use Rattle.saturation.proofs.Writing.{write_leaves}
 use Rattle.saturation.specs.Tournament.{Played, PlayedBut, ButWinners}
-use Rattle.saturation.proofs.Rematching.{Touched, touched_played, but_statement}
+use Rattle.saturation.proofs.Rematching.{Touched, touched_played, but_statement, but_grade}
 use Rattle.saturation.proofs.Winners.{same_right, but_grown, but_apart, but_best, but_right}
-use Rattle.saturation.proofs.Indexing.{entered_long, entered_old, entered_new}
+use Rattle.saturation.proofs.Leaving.{same_capacity, leaves_refl, leaves_trans, but_row_leaves, but_row_then, but_content}
+use Rattle.saturation.proofs.Indexing.{entered_long, entered_beyond, entered_old, entered_new}
 
 pub last_or : (i n : ℕ) → i < n + 1 → (i < n) ⊎ (i ≡ n)
 last_or i n h = ⊎_elim (λ t. inr t.1) (λ f. let ne = f.1 in inl (omega arith)) (eqb_tells i n)
@@ -61,8 +64,7 @@ grown_refl s = record {
   turns = λ k h. refl;
   fresh = λ k low h. absurd (let z : ⊥ = omega arith in z);
   kept = λ k h p. (refl, λ d. refl);
-  rows_long = refl;
-  grades_long = refl;
+  leaves = leaves_refl s;
 }
 
 pub grown_trans : {G : Type 0} {s t u : State G} → Grown s t → Grown t u → Grown s u
@@ -81,17 +83,22 @@ grown_trans {G} {s} {t} {u} a b =
           let q = a.kept k h p in
           let r = b.kept k (up k h) (λ z. p (sym (a.places k h) ∙ z)) in
           (r.0 ∙ q.0, λ d. r.1 d ∙ q.1 d);
-      rows_long = b.rows_long ∙ a.rows_long;
-      grades_long = b.grades_long ∙ a.grades_long;
+      leaves = leaves_trans n a.leaves b.leaves;
     }
 
-module _ {G : Type 0} (s : State G) (x : Row) (g : G) (rows_in : s.len < length s.rows) (grades_in : s.len < length s.grades) where
+module _ {G : Type 0} (s : State G) (x : Row) (g : G) (room : s.len < capacity s) where
+  used : capacity s ≤ length s.rows
+  used = omega arith
+
+  grades_in : s.len < length s.grades
+  grades_in = omega arith
+
   -- of the rows each column but the heads
   old_column : {X : Type 0} (f : Row → X) → ((r : Row) (k : ℕ) → f (headed r k) ≡ f r) → (k : ℕ) → k < s.len → f (row_at (pushed s x g) k) ≡ f (row_at s k)
-  old_column f apart k h = entered_old s.rows s.len x (bucket_of (length s.rows) x.statement) refl rows_in f apart k (λ e. omega arith)
+  old_column f apart k h = entered_old (capacity s) s.rows s.len x (bucket_of (capacity s) x.statement) refl room used f apart k (λ e. omega arith)
 
   new_column : {X : Type 0} (f : Row → X) → ((r : Row) (k : ℕ) → f (headed r k) ≡ f r) → (k : ℕ) → k ≡ s.len → f (row_at (pushed s x g) k) ≡ f x
-  new_column f apart k e = ap (λ (j : ℕ). f (row_at (pushed s x g) j)) e ∙ entered_new s.rows s.len x (bucket_of (length s.rows) x.statement) refl rows_in f apart
+  new_column f apart k e = ap (λ (j : ℕ). f (row_at (pushed s x g) j)) e ∙ entered_new (capacity s) s.rows s.len x (bucket_of (capacity s) x.statement) refl room used f apart
 
   statement_old : (k : ℕ) → k < s.len → statement_at (pushed s x g) k ≡ statement_at s k
   statement_old = old_column (λ (r : Row). r.statement) (λ r k. refl)
@@ -111,6 +118,17 @@ module _ {G : Type 0} (s : State G) (x : Row) (g : G) (rows_in : s.len < length 
   new_grade : (d : G) → get_or (pushed s x g).grades s.len d ≡ g
   new_grade d = get_or-set_same s.grades s.len g d grades_in
 
+  -- all but the new row and its grade, besides chains
+  pub pushed_but : ButRow s (pushed s x g) s.len
+  pushed_but = record {
+    settled = refl;
+    rows_long = entered_long (capacity s) s.rows s.len x (bucket_of (capacity s) x.statement) refl room used;
+    grades_long = length-set s.grades s.len g;
+    beyond = entered_beyond (capacity s) s.rows s.len x (bucket_of (capacity s) x.statement) refl room used;
+    rows = entered_old (capacity s) s.rows s.len x (bucket_of (capacity s) x.statement) refl room used content (λ r k. refl);
+    grades = λ k ne d. get_or-set_other s.grades s.len k g d ne;
+  }
+
   pub pushed_grown : x.place ≡ None → Grown s (pushed s x g)
   pushed_grown un = record {
     more = omega arith;
@@ -120,8 +138,7 @@ module _ {G : Type 0} (s : State G) (x : Row) (g : G) (rows_in : s.len < length 
     turns = old_column (λ (r : Row). r.turn) (λ r k. refl);
     fresh = λ k low h. new_column (λ (r : Row). r.place) (λ r k. refl) k (omega arith) ∙ un;
     kept = λ k h p. (kept_old k h, old_grade k h);
-    rows_long = entered_long s.rows s.len x (bucket_of (length s.rows) x.statement) refl rows_in;
-    grades_long = length-set s.grades s.len g;
+    leaves = but_row_leaves s.len (omega arith) pushed_but;
   }
 
   grade_at : (i : ℕ) → i ≡ s.len → (d : G) → get_or (pushed s x g).grades i d ≡ g
@@ -186,28 +203,44 @@ module _ {G : Type 0} (s : State G) (x : Row) (g : G) (rows_in : s.len < length 
       (λ ni. same_right al base l x.statement (statement_at t i) g (get_or t.grades i d) x.kept (row_at t i).kept (sym (statement_new i ni)) (sym (grade_at i ni d)) (sym (new_column (λ (r : Row). r.kept) (λ r k. refl) i ni)) right)
       (last_or i s.len h)
 
-module _ {G : Type 0} (s : State G) (i : ℕ) (g : G) (kept : Kept) (rows_in : i < length s.rows) (grades_in : i < length s.grades) where
+module _ {G : Type 0} (s : State G) (i : ℕ) (g : G) (kept : Kept) (within : i < s.len) (fits : s.len ≤ capacity s) where
+  in_rows : i < length s.rows
+  in_rows = omega arith
+
+  in_grades : i < length s.grades
+  in_grades = omega arith
+
   row_other : (k : ℕ) → (k ≡ i → ⊥) → row_at (improved s i g kept) k ≡ row_at s k
   row_other k ne = get_or-set_other s.rows i k (rekept (row_at s i) kept) no_row ne
 
   row_here : row_at (improved s i g kept) i ≡ rekept (row_at s i) kept
-  row_here = get_or-set_same s.rows i (rekept (row_at s i) kept) no_row rows_in
+  row_here = get_or-set_same s.rows i (rekept (row_at s i) kept) no_row in_rows
 
   better_other : (k : ℕ) → (k ≡ i → ⊥) → (d : G) → get_or (improved s i g kept).grades k d ≡ get_or s.grades k d
   better_other k ne d = get_or-set_other s.grades i k g d ne
 
   better_here : (k : ℕ) → k ≡ i → (d : G) → get_or (improved s i g kept).grades k d ≡ g
-  better_here k e d = ap (λ (j : ℕ). get_or (improved s i g kept).grades j d) e ∙ get_or-set_same s.grades i g d grades_in
+  better_here k e d = ap (λ (j : ℕ). get_or (improved s i g kept).grades j d) e ∙ get_or-set_same s.grades i g d in_grades
 
   -- what a new step leaves of a row
   left_as : {X : Type 0} (f : Row → X) → f (rekept (row_at s i) kept) ≡ f (row_at s i) → (k : ℕ) → f (row_at (improved s i g kept) k) ≡ f (row_at s k)
-  left_as = write_leaves s.rows i (rekept (row_at s i) kept) rows_in
+  left_as = write_leaves s.rows i (rekept (row_at s i) kept) in_rows
 
   statements_left : (k : ℕ) → statement_at (improved s i g kept) k ≡ statement_at s k
   statements_left = left_as (λ (r : Row). r.statement) refl
 
   places_left : (k : ℕ) → (row_at (improved s i g kept) k).place ≡ (row_at s k).place
   places_left = left_as (λ (r : Row). r.place) refl
+
+  pub improved_but : ButRow s (improved s i g kept) i
+  improved_but = record {
+    settled = refl;
+    rows_long = length-set s.rows i (rekept (row_at s i) kept);
+    grades_long = length-set s.grades i g;
+    beyond = λ k h. row_other k (λ e. omega arith);
+    rows = λ k ne. ap content (row_other k ne);
+    grades = better_other;
+  }
 
   pub improved_grown : (row_at s i).place ≡ None → Grown s (improved s i g kept)
   improved_grown un = record {
@@ -220,8 +253,7 @@ module _ {G : Type 0} (s : State G) (i : ℕ) (g : G) (kept : Kept) (rows_in : i
     kept = λ k h p.
         let ne : k ≡ i → ⊥ = λ e. p (ap (λ (j : ℕ). (row_at s j).place) e ∙ un) in
         (ap (λ (r : Row). r.kept) (row_other k ne), better_other k ne);
-    rows_long = length-set s.rows i (rekept (row_at s i) kept);
-    grades_long = length-set s.grades i g;
+    leaves = but_row_leaves i within improved_but;
   }
 
   pub improved_touched : Touched s (improved s i g kept) i
@@ -235,8 +267,8 @@ module _ {G : Type 0} (s : State G) (i : ℕ) (g : G) (kept : Kept) (rows_in : i
   pub improved_apart : Apart s → Apart (improved s i g kept)
   improved_apart apart j k hj hk e = apart j k hj hk (sym (statements_left j) ∙ e ∙ statements_left k)
 
-  pub improved_best : (al : Algebra G) → Laws al → (x : Statement) → i < s.len → statement_at s i ≡ x → (row_at s i).place ≡ None → ((d : G) → al.no_worse (get_or s.grades i d) g ≡ false) → (offered : List (Statement × G)) → BestOf al s offered → BestOf al (improved s i g kept) ((x, g) ∷ offered)
-  improved_best al l x within is un worse off b =
+  pub improved_best : (al : Algebra G) → Laws al → (x : Statement) → statement_at s i ≡ x → (row_at s i).place ≡ None → ((d : G) → al.no_worse (get_or s.grades i d) g ≡ false) → (offered : List (Statement × G)) → BestOf al s offered → BestOf al (improved s i g kept) ((x, g) ∷ offered)
+  improved_best al l x is un worse off b =
       let t = improved s i g kept in
       let reflexive : (v : G) → al.no_worse v v ≡ true = λ v. ⊎_elim (λ e. e) (λ e. e) (l.total v v) in
       let ahead : (d : G) → al.no_worse g (get_or s.grades i d) ≡ true = λ d. ⊎_elim (λ e. absurd (both_ways _ (worse d) e)) (λ e. e) (l.total (get_or s.grades i d) g) in
@@ -295,53 +327,73 @@ module _ {G : Type 0} (al : Algebra G) (s m t : State G) (x : Row) (g : G) (room
   from_pushed : ButWinners (pushed s x g) t
   from_pushed = subst (λ (z : State G). ButWinners z t) is but
 
-  rows_in : s.len < length s.rows
-  rows_in = grind (arith, nat_tests)
+  within : s.len < capacity s
+  within = grind (arith, nat_tests)
 
-  grades_in : s.len < length s.grades
-  grades_in = grind (arith, nat_tests)
+  fits : s.len + 1 ≤ capacity (pushed s x g)
+  fits = let lt = within in let b = pushed_but s x g within in let e = same_capacity s (pushed s x g) b.rows_long b.grades_long in omega arith
 
   pub taken_pushed : Laws al → x.place ≡ None → Absent s x.statement → (PlayedBut al m s.len → Played al t) → Taken al s t x.statement g true
   taken_pushed l un absent played = record {
-    grown = grown_trans (pushed_grown s x g rows_in grades_in un) (but_grown from_pushed);
-    apart = λ h. but_apart from_pushed (pushed_apart s x g rows_in grades_in absent h);
-    only = λ k low h. let e = from_pushed.len in but_statement from_pushed k ∙ statement_new s x g rows_in grades_in k (omega arith);
+    grown = grown_trans (pushed_grown s x g within un) (but_grown from_pushed fits);
+    apart = λ h. but_apart from_pushed (pushed_apart s x g within absent h);
+    only = λ k low h. let e = from_pushed.len in but_statement from_pushed k ∙ statement_new s x g within k (omega arith);
     ranked = λ _ offered r. record {
-      best = but_best from_pushed al _ (pushed_best s x g rows_in grades_in al l absent offered r.best);
-      played = played (subst (λ (z : State G). PlayedBut al z s.len) (sym is) (touched_played al s (pushed s x g) s.len (pushed_touched s x g rows_in grades_in) r.played));
+      best = but_best from_pushed al _ (pushed_best s x g within al l absent offered r.best);
+      played = played (subst (λ (z : State G). PlayedBut al z s.len) (sym is) (touched_played al s (pushed s x g) s.len (pushed_touched s x g within) r.played));
     };
     refused = λ e. absurd (both_ways true e refl);
   }
 
+  sets_pushed : Sets s t s.len x g
+  sets_pushed = record {
+    others = but_row_then s.len (omega arith) fits (pushed_but s x g within) from_pushed;
+    row = but_content from_pushed s.len ∙ new_column s x g within content (λ r k. refl) s.len refl;
+    grade = λ d. but_grade from_pushed s.len d ∙ new_grade s x g within d;
+  }
+
+  pub offered_pushed : (step : Kept) → content x ≡ content (entry (row_at s s.len) x.statement step) → Absent s x.statement → Offered al s t x.statement g step true
+  offered_pushed step told absent =
+      let e = from_pushed.len in
+      let p = sets_pushed in
+      new absent within e (record { others = p.others; row = p.row ∙ told; grade = p.grade })
+
   pub keeps_pushed : Keeps al s t x.statement g x.kept
-  keeps_pushed base l right all = but_right from_pushed al base l (pushed_right s x g rows_in grades_in al base l right all)
+  keeps_pushed base l right all = but_right from_pushed al base l (pushed_right s x g within al base l right all)
 
 -- a better grade, and the winners found anew
 module _ {G : Type 0} (al : Algebra G) (s m t : State G) (i : ℕ) (x : Statement) (g : G) (kept : Kept) (is : m ≡ improved s i g kept) (but : ButWinners m t)
-    (within : i < s.len) (rows_fit : s.len ≤ length s.rows) (grades_fit : s.len ≤ length s.grades) (same : statement_at s i ≡ x) where
+    (within : i < s.len) (fits : s.len ≤ capacity s) (same : statement_at s i ≡ x) where
   from_improved : ButWinners (improved s i g kept) t
   from_improved = subst (λ (z : State G). ButWinners z t) is but
 
-  in_rows : i < length s.rows
-  in_rows = omega arith
-
-  in_grades : i < length s.grades
-  in_grades = omega arith
+  still_fits : s.len ≤ capacity (improved s i g kept)
+  still_fits = let e = same_capacity s (improved s i g kept) (length-set s.rows i (rekept (row_at s i) kept)) (length-set s.grades i g) in omega arith
 
   pub taken_improved : Laws al → Outdone al s i g true → (PlayedBut al m i → Played al t) → Taken al s t x g true
   taken_improved l out played = record {
-    grown = grown_trans (improved_grown s i g kept in_rows in_grades out.0) (but_grown from_improved);
-    apart = λ h. but_apart from_improved (improved_apart s i g kept in_rows in_grades h);
+    grown = grown_trans (improved_grown s i g kept within fits out.0) (but_grown from_improved still_fits);
+    apart = λ h. but_apart from_improved (improved_apart s i g kept within fits h);
     only = λ k low h. let e = from_improved.len in absurd (let z : ⊥ = omega arith in z);
     ranked = λ _ offered r. record {
-      best = but_best from_improved al _ (improved_best s i g kept in_rows in_grades al l x within same out.0 out.1 offered r.best);
-      played = played (subst (λ (z : State G). PlayedBut al z i) (sym is) (touched_played al s (improved s i g kept) i (improved_touched s i g kept in_rows in_grades) r.played));
+      best = but_best from_improved al _ (improved_best s i g kept within fits al l x same out.0 out.1 offered r.best);
+      played = played (subst (λ (z : State G). PlayedBut al z i) (sym is) (touched_played al s (improved s i g kept) i (improved_touched s i g kept within fits) r.played));
     };
     refused = λ e. absurd (both_ways true e refl);
   }
 
+  sets_improved : Sets s t i (rekept (row_at s i) kept) g
+  sets_improved = record {
+    others = but_row_then i (omega arith) still_fits (improved_but s i g kept within fits) from_improved;
+    row = but_content from_improved i ∙ ap content (row_here s i g kept within fits);
+    grade = λ d. but_grade from_improved i d ∙ better_here s i g kept within fits i refl d;
+  }
+
+  pub offered_improved : Outdone al s i g true → Offered al s t x g kept true
+  offered_improved out = bettered i within same out.0 out.1 from_improved.len sets_improved
+
   pub keeps_improved : Keeps al s t x g kept
-  keeps_improved base l right all = but_right from_improved al base l (improved_right s i g kept in_rows in_grades al x same base l right all)
+  keeps_improved base l right all = but_right from_improved al base l (improved_right s i g kept within fits al x same base l right all)
 
 -- nothing is written
 module _ {G : Type 0} (al : Algebra G) (s : State G) (x : Statement) (g : G) where

@@ -13,7 +13,7 @@ use Rattle.saturation.specs.Tables.{State, row_at, statement_at, OpenAt}
 use Rattle.saturation.specs.Choosing.{Ahead, RowAhead, Chosen}
 use Rattle.saturation.specs.Tournament.{parent, Under, Beats, Match, Wins, winner_at, Played, PlayedBut, won_by, crowned, ButWinners}
 use Rattle.saturation.specs.Tournament.Under.{itself, below}
-use Rattle.saturation.proofs.Writing.{write_leaves}
+use Rattle.saturation.proofs.Writing.{write_other, write_leaves}
 use Rattle.saturation.proofs.Chaining.{walk_left}
 use Rattle.saturation.proofs.Choosing.{ahead_trans, ahead_irreflexive, behind_trans}
 
@@ -64,7 +64,7 @@ parent_low (suc k) p e = let h = (cond_some true p (k / 2) e).1 in omega (arith,
 -- nothing but winners differs
 module _ {G : Type 0} where
   pub but_refl : (s : State G) → ButWinners s s
-  but_refl s = record { len = refl; settled = refl; grades = refl; rows_long = refl; rows = λ k. refl }
+  but_refl s = record { len = refl; settled = refl; grades = refl; rows_long = refl; rows = λ k. refl; free = λ k h. refl }
 
   pub but_trans : {s t u : State G} → ButWinners s t → ButWinners t u → ButWinners s u
   but_trans x y = record {
@@ -73,15 +73,17 @@ module _ {G : Type 0} where
     grades = y.grades ∙ x.grades;
     rows_long = y.rows_long ∙ x.rows_long;
     rows = λ k. y.rows k ∙ x.rows k;
+    free = λ k h. let e = x.len in y.free k (omega arith) ∙ x.free k h;
   }
 
-  pub but_crowned : (s : State G) (k w : ℕ) → k < length s.rows → ButWinners s (crowned s k w)
-  but_crowned s k w within = record {
+  pub but_crowned : (s : State G) (k w : ℕ) → k < s.len → k < length s.rows → ButWinners s (crowned s k w)
+  but_crowned s k w taken within = record {
     len = refl;
     settled = refl;
     grades = refl;
     rows_long = length-set s.rows k (won_by (row_at s k) w);
     rows = write_leaves s.rows k (won_by (row_at s k) w) within (λ (r : Row). won_by r 0) refl;
+    free = λ j h. write_other s.rows k (won_by (row_at s k) w) within j (λ e. omega arith);
   }
 
   module _ {s t : State G} (but : ButWinners s t) where
@@ -230,7 +232,7 @@ module _ {G : Type 0} (a : Algebra G) (s : State G) (k w : ℕ) (within : k < s.
 
   at_row : PlayedBut a s k → Wins a s k w → (j : ℕ) → j < s.len → (j ≢ k → Under j k → ⊥) → Wins a (crowned s k w) j (winner_at (crowned s k w) j)
   at_row played wins j lt never =
-      let but = but_crowned s k w in_rows in
+      let but = but_crowned s k w within in_rows in
       ⊎_elim
       (λ e. subst (λ (n : ℕ). Wins a (crowned s k w) n (winner_at (crowned s k w) n)) (sym e.1) (subst (Wins a (crowned s k w) k) (sym winner_here) (but_wins a s (crowned s k w) but k w wins)))
       (λ ne. subst (Wins a (crowned s k w) j) (sym (winner_other j ne.1)) (but_wins a s (crowned s k w) but j (winner_at s j) (played j lt (never ne.1))))
@@ -264,7 +266,7 @@ module _ {G : Type 0} (a : Algebra G) (s : State G) where
   rematched_more t u i at k w next rows_fit is on new wins r =
       let in_t = r.due k is in
       subst (λ (z : State G). Rematched a s z i next) (sym new) (record {
-        but = but_trans r.but (but_crowned t k w (omega arith));
+        but = but_trans r.but (but_crowned t k w in_t (omega arith));
         due = λ j e. let h = parent_low k j (sym e ∙ on) in omega arith;
         played = λ p. let q = subst (PlayedUpTo a t) is (r.played p) in played_at_parent a t k w in_t rows_fit next on q.1 (wins q.1);
       })

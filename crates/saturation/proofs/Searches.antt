@@ -95,8 +95,8 @@ module _ {G : Type 0} (al : Algebra G) where
     }
 
     -- a refusal after what went before
-    pub went_stopped : (s t u : State G) (A B C May : Family G) (a b : Bool) → Fit s → a ≡ true → b ≡ false → Went al n s t A May a → Went al n t u B May b → Went al n s u C May false
-    went_stopped s t u A B C May a b fit on off x y = went_false s u (λ l o. A l o ⊎ B l o) C May b off (went_then s t u A B May a b fit on x y)
+    pub went_stopped : (s t u : State G) (A B May : Family G) (b : Bool) → Fit s → b ≡ false → Went al n s t A May true → Went al n t u B May b → Went al n s u May May false
+    went_stopped s t u A B May b fit off x y = went_false s u (λ l o. A l o ⊎ B l o) May May b off (went_then s t u A B May true b fit refl x y)
 
     -- one index more
     pub went_more : (s t u : State G) (F : ℕ → Family G) (May : Family G) (m : ℕ) (r : Bool) → Fit s → Went al n s t (Below F m) May true → Went al n t u (F m) May r → Went al n s u (Below F (m + 1)) May r

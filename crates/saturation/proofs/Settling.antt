@@ -9,12 +9,14 @@ use Rattle.saturation.specs.declared.row.Row.{Row}
 use Rattle.saturation.specs.declared.row.Kept.{Kept}
 use Rattle.saturation.specs.declared.side.Spots.{Spots}
 use Rattle.saturation.specs.Sides.{SpotsWithin, settled_rows}
-use Rattle.saturation.specs.Tables.{State, row_at, statement_at, turn_at, OpenAt, spots_at, settled_row}
+use Rattle.saturation.specs.Tables.{State, capacity, row_at, statement_at, turn_at, OpenAt, spots_at, settled_row}
+use Rattle.saturation.specs.Rows.{TurnsPlaced}
+use Rattle.saturation.specs.Memory.{content, Leaves, KeepsSettled}
 use Rattle.saturation.specs.Places.{KeptRight}
 use Rattle.saturation.specs.Offering.{Apart, BestOf, Grown, RowsRight, Explained}
 use Rattle.saturation.specs.Searching.{Premise, Lists}
 use Rattle.saturation.proofs.Offers.{last_or, equal_or, not_both, in_same}
-use Rattle.saturation.proofs.Siding.{spots_within, kept_apart, winner_apart, settled_long, settled_leaves, settled_statement, turn_old, turn_new, place_old, place_new}
+use Rattle.saturation.proofs.Siding.{spots_within, kept_apart, winner_apart, content_apart, settled_long, settled_leaves, settled_far, settled_beyond, settled_statement, turn_old, turn_new, place_old, place_new}
 use Rattle.saturation.proofs.Rematching.{Touched}
 use Rattle.saturation.proofs.Lists.{Fit, turn_kept}
 use Rattle.saturation.proofs.Stepping.{kept_up}
@@ -30,33 +32,60 @@ one_more s rows = record { rows = rows; grades = s.grades; len = s.len; settled 
 pub settled_as : {G : Type 0} (s : State G) (i : ℕ) (new : List Row) (spots : Spots) → spots ≡ spots_at s i → new ≡ settled_rows s.rows s.settled i spots → one_more s new ≡ settled_row s i
 settled_as s i new spots at is = ap (one_more s) is ∙ ap (λ (v : Spots). one_more s (settled_rows s.rows s.settled i v)) at
 
-module _ {G : Type 0} (s : State G) (i : ℕ) (within : i < s.len) (rows_fit : s.len ≤ length s.rows) (room : s.settled < s.len) where
+module _ {G : Type 0} (s : State G) (i : ℕ) (within : i < s.len) (fits : s.len ≤ capacity s) (room : s.settled < s.len) where
+  few : capacity s ≤ length s.rows
+  few = omega arith
+
   in_n : s.settled < length s.rows
   in_n = omega arith
 
   in_i : i < length s.rows
   in_i = omega arith
 
-  in_spots : SpotsWithin (spots_at s i) (length s.rows)
-  in_spots = spots_within s.rows s.settled (statement_at s i) (omega arith)
+  in_spots : SpotsWithin (spots_at s i) (capacity s)
+  in_spots = spots_within (capacity s) s.rows s.settled (statement_at s i) (omega arith)
 
   pub settled_statements : (j : ℕ) → statement_at (settled_row s i) j ≡ statement_at s j
-  settled_statements = settled_statement s.rows s.settled i (spots_at s i) in_n in_i in_spots
+  settled_statements = settled_statement s.rows s.settled i (spots_at s i) (capacity s) few in_n in_i in_spots
 
   turn_before : (j : ℕ) → j < s.settled → turn_at (settled_row s i) j ≡ turn_at s j
-  turn_before j h = turn_old s.rows s.settled i (spots_at s i) in_n in_i in_spots j (λ e. omega arith)
+  turn_before j h = turn_old s.rows s.settled i (spots_at s i) (capacity s) few in_n in_i in_spots j (λ e. omega arith)
 
   turn_now : turn_at (settled_row s i) s.settled ≡ i
-  turn_now = turn_new s.rows s.settled i (spots_at s i) in_n in_i in_spots
+  turn_now = turn_new s.rows s.settled i (spots_at s i) (capacity s) few in_n in_i in_spots
 
   place_before : (j : ℕ) → (j ≡ i → ⊥) → (row_at (settled_row s i) j).place ≡ (row_at s j).place
-  place_before = place_old s.rows s.settled i (spots_at s i) in_n in_i in_spots
+  place_before = place_old s.rows s.settled i (spots_at s i) (capacity s) few in_n in_i in_spots
 
   place_now : (row_at (settled_row s i) i).place ≡ Some s.settled
-  place_now = place_new s.rows s.settled i (spots_at s i) in_n in_i in_spots
+  place_now = place_new s.rows s.settled i (spots_at s i) (capacity s) few in_n in_i in_spots
 
   pub settled_rows_long : length (settled_row s i).rows ≡ length s.rows
-  settled_rows_long = settled_long s.rows s.settled i (spots_at s i) in_n in_i in_spots
+  settled_rows_long = settled_long s.rows s.settled i (spots_at s i) (capacity s) few in_n in_i in_spots
+
+  pub settled_leaves_memory : Leaves s (settled_row s i)
+  settled_leaves_memory = record {
+    rows_long = settled_rows_long;
+    grades_long = refl;
+    beyond = λ k h. settled_beyond s.rows s.settled i (spots_at s i) (capacity s) few in_n in_i in_spots k h (omega arith) (omega arith);
+    free_rows = λ k h. settled_far s.rows s.settled i (spots_at s i) (capacity s) few in_n in_i in_spots content content_apart k (λ e. omega arith) (λ e. omega arith);
+    free_grades = λ k h d. refl;
+  }
+
+  settled_kept : (j : ℕ) → (row_at (settled_row s i) j).kept ≡ (row_at s j).kept
+  settled_kept = settled_leaves s.rows s.settled i (spots_at s i) (capacity s) few in_n in_i in_spots (λ (r : Row). r.kept) kept_apart (λ r p. refl) refl
+
+  pub settled_keeps : TurnsPlaced s.rows s.settled → OpenAt s i → KeepsSettled s (settled_row s i)
+  settled_keeps placed un =
+      let never : (k : ℕ) → k < s.settled → turn_at s k ≡ i → ⊥ = λ k h e. not_both _ k (placed k h) (ap (λ (j : ℕ). (row_at s j).place) e ∙ un) in
+      record {
+        more = omega arith;
+        turns = turn_before;
+        statements = λ k h. settled_statements (turn_at s k);
+        places = λ k h. place_before (turn_at s k) (never k h);
+        kept = λ k h. settled_kept (turn_at s k);
+        grades = λ k h d. refl;
+      }
 
   pub settled_lists : (l : List (Statement × G)) (g : G) → OpenAt s i → ((d : G) → get_or s.grades i d ≡ g) → Lists s l → Lists (settled_row s i) (l ++ (statement_at s i, g) ∷ [])
   settled_lists l g un grade is =
@@ -118,12 +147,9 @@ module _ {G : Type 0} (s : State G) (i : ℕ) (within : i < s.len) (rows_fit : s
   settled_touched = record {
     more = omega arith;
     old = λ j h ne. h;
-    winners = λ j h ne. settled_leaves s.rows s.settled i (spots_at s i) in_n in_i in_spots (λ (r : Row). r.winner) winner_apart (λ r p. refl) refl j;
+    winners = λ j h ne. settled_leaves s.rows s.settled i (spots_at s i) (capacity s) few in_n in_i in_spots (λ (r : Row). r.winner) winner_apart (λ r p. refl) refl j;
     plays = λ j h ne. record { place = place_before j ne; statement = settled_statements j; grade = λ d. refl };
   }
-
-  settled_kept : (j : ℕ) → (row_at (settled_row s i) j).kept ≡ (row_at s j).kept
-  settled_kept = settled_leaves s.rows s.settled i (spots_at s i) in_n in_i in_spots (λ (r : Row). r.kept) kept_apart (λ r p. refl) refl
 
   pub settled_right : (al : Algebra G) (base : Base G) (l : List (Statement × G)) (p : Statement × G) → RowsRight al base l s → RowsRight al base (l ++ p ∷ []) (settled_row s i)
   settled_right al base l p all j h z d =

@@ -1,5 +1,5 @@
 -- The chains of the settled statements on each side: what keeps them, and one settled more.
-use Rattle.std.proofs.Common.{◌≡◌, ◌≢◌, ℕ, ◌+◌, ◌<◌, List, length, get_or, Some, sym, refl, ap, ◌∙◌, arith, length-set}
+use Rattle.std.proofs.Common.{◌≡◌, ◌≢◌, ℕ, ◌+◌, ◌<◌, ◌≤◌, List, length, get_or, Some, sym, refl, ap, ◌∙◌, arith, length-set}
 use Rattle.standpoint.specs.declared.statement.Statement.{Statement}
 use Rattle.saturation.specs.declared.row.Chain.{Chain}
 use Rattle.saturation.specs.declared.row.Row.{Row}
@@ -11,6 +11,7 @@ use Rattle.saturation.specs.Rows.{no_row}
 use Rattle.saturation.specs.Chains.{last_in, heads_in, links_in}
 use Rattle.saturation.specs.Sides.{on, spots_of, SpotsWithin, node_of, chain_of, settled_at, side_bucket, Sided, spot_of, placed, turned, headed_on, head_set, turn_set, place_set, settled_rows}
 use Rattle.saturation.specs.Buckets.{bucket_of, headed}
+use Rattle.saturation.specs.Memory.{content}
 use Rattle.saturation.proofs.Chaining.{chained_same, chained_next}
 use Rattle.saturation.proofs.Indexing.{bucket_below}
 use Rattle.saturation.proofs.Writing.{write_here, write_other, write_leaves}
@@ -24,13 +25,13 @@ same_chains r q a b c d e Ending = d
 same_chains r q a b c d e Through = e
 
 -- the same statements settled at the same places
-module _ (rows new : List Row) (long : length new ≡ length rows) (n : ℕ) (same : (k : ℕ) → k < n → settled_at new k ≡ settled_at rows k) where
-  side_same : (side : Side) (k : ℕ) → k < n → side_bucket side new k ≡ side_bucket side rows k
-  side_same side k h = ap (λ (m : ℕ). bucket_of m (node_of side (settled_at new k))) long ∙ ap (λ (x : Statement). bucket_of (length rows) (node_of side x)) (same k h)
+module _ (buckets : ℕ) (rows new : List Row) (n : ℕ) (same : (k : ℕ) → k < n → settled_at new k ≡ settled_at rows k) where
+  side_same : (side : Side) (k : ℕ) → k < n → side_bucket side buckets new k ≡ side_bucket side buckets rows k
+  side_same side k h = ap (λ (x : Statement). bucket_of buckets (node_of side x)) (same k h)
 
-  pub sides_kept : ((side : Side) (k : ℕ) → chain_of side (get_or new k no_row) ≡ chain_of side (get_or rows k no_row)) → Sided rows n → Sided new n
+  pub sides_kept : ((side : Side) (k : ℕ) → chain_of side (get_or new k no_row) ≡ chain_of side (get_or rows k no_row)) → Sided buckets rows n → Sided buckets new n
   sides_kept chain sides side =
-      chained_same (side_bucket side rows) (side_bucket side new) (heads_in (chain_of side) rows) (heads_in (chain_of side) new) (links_in (chain_of side) rows) (links_in (chain_of side) new) n
+      chained_same (side_bucket side buckets rows) (side_bucket side buckets new) (heads_in (chain_of side) rows) (heads_in (chain_of side) new) (links_in (chain_of side) rows) (links_in (chain_of side) new) n
       (side_same side) (λ k h. ap (λ (c : Chain). c.link) (chain side k)) (sides side) (λ b. ap (λ (c : Chain). c.head) (chain side b))
 
 -- a head that is set leaves the other columns
@@ -94,12 +95,12 @@ place_apart Inner r j = refl
 place_apart Ending r j = refl
 place_apart Through r j = refl
 
-pub mark_apart : Apart (λ r. r.mark)
-mark_apart Source r j = refl
-mark_apart Target r j = refl
-mark_apart Inner r j = refl
-mark_apart Ending r j = refl
-mark_apart Through r j = refl
+pub listed_apart : Apart (λ r. r.listed)
+listed_apart Source r j = refl
+listed_apart Target r j = refl
+listed_apart Inner r j = refl
+listed_apart Ending r j = refl
+listed_apart Through r j = refl
 
 pub winner_apart : Apart (λ r. r.winner)
 winner_apart Source r j = refl
@@ -122,6 +123,13 @@ kept_apart Inner r j = refl
 kept_apart Ending r j = refl
 kept_apart Through r j = refl
 
+pub content_apart : Apart content
+content_apart Source r j = refl
+content_apart Target r j = refl
+content_apart Inner r j = refl
+content_apart Ending r j = refl
+content_apart Through r j = refl
+
 -- a row that is entered has its own index alone
 pub sides_apart : (side : Side) (r : Row) (j : ℕ) → chain_of side (headed r j) ≡ chain_of side r
 sides_apart Source r j = refl
@@ -130,23 +138,23 @@ sides_apart Inner r j = refl
 sides_apart Ending r j = refl
 sides_apart Through r j = refl
 
-pub spots_are : (rows : List Row) (n : ℕ) (x : Statement) (spots : Spots) → spots ≡ spots_of rows n x → (side : Side) → on spots side ≡ spot_of side rows n (node_of side x)
-spots_are rows n x spots is side = ap (λ (v : Spots). on v side) is ∙ each side
+pub spots_are : (buckets : ℕ) (rows : List Row) (n : ℕ) (x : Statement) (spots : Spots) → spots ≡ spots_of buckets rows n x → (side : Side) → on spots side ≡ spot_of side buckets rows n (node_of side x)
+spots_are buckets rows n x spots is side = ap (λ (v : Spots). on v side) is ∙ each side
   where
-    each : (side : Side) → on (spots_of rows n x) side ≡ spot_of side rows n (node_of side x)
+    each : (side : Side) → on (spots_of buckets rows n x) side ≡ spot_of side buckets rows n (node_of side x)
     each Source = refl
     each Target = refl
     each Inner = refl
     each Ending = refl
     each Through = refl
 
-pub spots_within : (rows : List Row) (n : ℕ) (x : Statement) → 0 < length rows → SpotsWithin (spots_of rows n x) (length rows)
-spots_within rows n x some =
-    let below : (side : Side) → bucket_of (length rows) (node_of side x) < length rows = λ side. bucket_below (length rows) (node_of side x) some in
+pub spots_within : (buckets : ℕ) (rows : List Row) (n : ℕ) (x : Statement) → 0 < buckets → SpotsWithin (spots_of buckets rows n x) buckets
+spots_within buckets rows n x some =
+    let below : (side : Side) → bucket_of buckets (node_of side x) < buckets = λ side. bucket_below buckets (node_of side x) some in
     (below Source, below Target, below Inner, below Ending, below Through)
 
 -- row i is settled n-th
-module _ (rows : List Row) (n i : ℕ) (spots : Spots) (at_n : n < length rows) (at_i : i < length rows) (at_spot : SpotsWithin spots (length rows)) where
+module _ (rows : List Row) (n i : ℕ) (spots : Spots) (buckets : ℕ) (few : buckets ≤ length rows) (at_n : n < length rows) (at_i : i < length rows) (at_spot : SpotsWithin spots buckets) where
   abbrev named : List Row
   named = turn_set rows n i spots
 
@@ -229,6 +237,29 @@ module _ (rows : List Row) (n i : ℕ) (spots : Spots) (at_n : n < length rows) 
 
   pub settled_there : {X : Type 0} (f : Row → X) → Apart f → ((r : Row) (p : ℕ) → f (placed r p) ≡ f r) → (j : ℕ) → (j ≡ n → ⊥) → f (get_or new j no_row) ≡ f (get_or rows j no_row)
   settled_there f apart place j ne = unplaced f apart place j ∙ ap f (write_other rows n (turned (get_or rows n no_row) i spots) at_n j ne)
+
+  -- rows in which nothing is settled, and that tell of no settled place
+  pub settled_far : {X : Type 0} (f : Row → X) → Apart f → (j : ℕ) → (j ≡ i → ⊥) → (j ≡ n → ⊥) → f (get_or new j no_row) ≡ f (get_or rows j no_row)
+  settled_far f apart j other ne =
+      unheaded f apart j
+      ∙ ap f (write_other named i (placed (get_or named i no_row) n) in_named j other)
+      ∙ ap f (write_other rows n (turned (get_or rows n no_row) i spots) at_n j ne)
+
+  -- rows that are no bucket either
+  pub settled_beyond : (j : ℕ) → buckets ≤ j → i < buckets → n < buckets → get_or new j no_row ≡ get_or rows j no_row
+  settled_beyond j h below_i below_n =
+      let a = at_spot.0 in
+      let b = at_spot.1 in
+      let c = at_spot.2 in
+      let d = at_spot.3 in
+      let e = at_spot.4 in
+      write_other four spots.through.bucket (headed_on Through (get_or four spots.through.bucket no_row) n) in_four j (λ z. omega arith)
+      ∙ write_other three spots.ending.bucket (headed_on Ending (get_or three spots.ending.bucket no_row) n) in_three j (λ z. omega arith)
+      ∙ write_other two spots.inner.bucket (headed_on Inner (get_or two spots.inner.bucket no_row) n) in_two j (λ z. omega arith)
+      ∙ write_other one spots.target.bucket (headed_on Target (get_or one spots.target.bucket no_row) n) in_one j (λ z. omega arith)
+      ∙ write_other put spots.source.bucket (headed_on Source (get_or put spots.source.bucket no_row) n) in_put j (λ z. omega arith)
+      ∙ write_other named i (placed (get_or named i no_row) n) in_named j (λ z. omega arith)
+      ∙ write_other rows n (turned (get_or rows n no_row) i spots) at_n j (λ z. omega arith)
 
   pub settled_statement : (j : ℕ) → (get_or new j no_row).statement ≡ (get_or rows j no_row).statement
   settled_statement = settled_leaves (λ (r : Row). r.statement) statement_apart (λ r p. refl) refl
@@ -340,24 +371,23 @@ module _ (rows : List Row) (n i : ℕ) (spots : Spots) (at_n : n < length rows) 
   link_turned Ending r = refl
   link_turned Through r = refl
 
-  module _ (at_spots : (side : Side) → on spots side ≡ spot_of side rows n (node_of side (get_or rows i no_row).statement)) (sides : Sided rows n) where
+  module _ (at_spots : (side : Side) → on spots side ≡ spot_of side buckets rows n (node_of side (get_or rows i no_row).statement)) (sides : Sided buckets rows n) where
     same_settled : (k : ℕ) → k < n → settled_at new k ≡ settled_at rows k
     same_settled k h = ap (λ (j : ℕ). (get_or new j no_row).statement) (turn_old k (λ e. omega arith)) ∙ settled_statement (get_or rows k no_row).turn
 
-    bucket_new : (side : Side) → side_bucket side new n ≡ (on spots side).bucket
+    bucket_new : (side : Side) → side_bucket side buckets new n ≡ (on spots side).bucket
     bucket_new side =
-        ap (λ (m : ℕ). bucket_of m (node_of side (settled_at new n))) settled_long
-        ∙ ap (λ (x : Statement). bucket_of (length rows) (node_of side x)) (ap (λ (j : ℕ). (get_or new j no_row).statement) turn_new ∙ settled_statement i)
+        ap (λ (x : Statement). bucket_of buckets (node_of side x)) (ap (λ (j : ℕ). (get_or new j no_row).statement) turn_new ∙ settled_statement i)
         ∙ sym (ap (λ (v : Spot). v.bucket) (at_spots side))
 
-    link_new : (side : Side) → links_in (chain_of side) new n ≡ last_in (side_bucket side rows) (on spots side).bucket n
+    link_new : (side : Side) → links_in (chain_of side) new n ≡ last_in (side_bucket side buckets rows) (on spots side).bucket n
     link_new side =
         settled_here (λ (r : Row). (chain_of side r).link) (link_apart side) (link_placed side) ∙ link_turned side (get_or rows n no_row)
-        ∙ ap (λ (v : Spot). v.last) (at_spots side) ∙ ap (λ (b : ℕ). last_in (side_bucket side rows) b n) (sym (ap (λ (v : Spot). v.bucket) (at_spots side)))
+        ∙ ap (λ (v : Spot). v.last) (at_spots side) ∙ ap (λ (b : ℕ). last_in (side_bucket side buckets rows) b n) (sym (ap (λ (v : Spot). v.bucket) (at_spots side)))
 
-    pub settled_sides : Sided new (n + 1)
+    pub settled_sides : Sided buckets new (n + 1)
     settled_sides side =
-        chained_next (side_bucket side rows) (side_bucket side new) (heads_in (chain_of side) rows) (heads_in (chain_of side) new) (links_in (chain_of side) rows) (links_in (chain_of side) new) n
-        (side_same rows new settled_long n same_settled side)
+        chained_next (side_bucket side buckets rows) (side_bucket side buckets new) (heads_in (chain_of side) rows) (heads_in (chain_of side) new) (links_in (chain_of side) rows) (links_in (chain_of side) new) n
+        (side_same buckets rows new n same_settled side)
         (λ k h. settled_there (λ (r : Row). (chain_of side r).link) (link_apart side) (link_placed side) k (λ e. omega arith))
         (sides side) (on spots side).bucket (bucket_new side) (head_new side) (head_old side) (link_new side)

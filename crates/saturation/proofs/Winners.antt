@@ -1,15 +1,16 @@
 -- What the rows hold does not rest on winners.
-use Rattle.std.proofs.Common.{◌≡◌, ℕ, ◌<◌, true, List, length, get_or, sym, ap, ◌∙◌, subst, arith}
+use Rattle.std.proofs.Common.{◌≡◌, ℕ, ◌<◌, ◌≤◌, true, List, get_or, sym, ap, ◌∙◌, subst, arith}
 use Rattle.standpoint.specs.declared.statement.Statement.{Statement}
 use Rattle.standpoint.specs.Lists.{In}
 use Rattle.standpoint.specs.Algebra.{Algebra}
 use Rattle.standpoint.specs.Derivations.{Base}
 use Rattle.saturation.specs.declared.row.Kept.{Kept}
 use Rattle.saturation.specs.declared.row.Row.{Row}
-use Rattle.saturation.specs.Tables.{State, row_at, statement_at}
+use Rattle.saturation.specs.Tables.{State, capacity, row_at, statement_at}
 use Rattle.saturation.specs.Places.{KeptRight}
 use Rattle.saturation.specs.Tournament.{ButWinners}
 use Rattle.saturation.specs.Offering.{Apart, BestOf, Grown, RowsRight}
+use Rattle.saturation.proofs.Leaving.{but_leaves}
 use Rattle.saturation.proofs.Rematching.{but_statement, but_place, but_grade}
 
 pub same_right : {G : Type 0} (al : Algebra G) (base : Base G) (l : List (Statement × G)) (x y : Statement) (g h : G) (j k : Kept) → x ≡ y → g ≡ h → j ≡ k → KeptRight al base l (x, g) j → KeptRight al base l (y, h) k
@@ -23,8 +24,8 @@ module _ {G : Type 0} {s t : State G} (but : ButWinners s t) where
   back : (k : ℕ) → k < t.len → k < s.len
   back k h = let e = but.len in omega arith
 
-  pub but_grown : Grown s t
-  but_grown =
+  pub but_grown : s.len ≤ capacity s → Grown s t
+  but_grown fits =
       let e = but.len in
       record {
         more = omega arith;
@@ -34,8 +35,7 @@ module _ {G : Type 0} {s t : State G} (but : ButWinners s t) where
         turns = λ k h. ap (λ (r : Row). r.turn) (but.rows k);
         fresh = λ k low h. absurd (let z : ⊥ = omega arith in z);
         kept = λ k h closed. (but_kept k, but_grade but k);
-        rows_long = but.rows_long;
-        grades_long = ap length but.grades;
+        leaves = but_leaves fits but;
       }
 
   pub but_apart : Apart s → Apart t

@@ -2,7 +2,7 @@
 use Rattle.std.proofs.Common.{◌≡◌, ℕ, ◌<◌, Bool, List, length, get_or, slice_set, sym, ap, ◌∙◌, subst, ⊎_elim, get_or-set_other, get_or-set_same}
 use Rattle.std.proofs.lemmas.Bool.Decides.{eqb_tells}
 use Rattle.saturation.specs.declared.row.Row.{Row}
-use Rattle.saturation.specs.Rows.{no_row, TurnsWithin, Unmarked, WinnersWithin}
+use Rattle.saturation.specs.Rows.{no_row, TurnsWithin, Unlisted, WinnersWithin}
 
 module _ (rows : List Row) (k : ℕ) (r : Row) (within : k < length rows) where
   pub write_here : get_or (slice_set rows k r) k no_row ≡ r
@@ -21,8 +21,8 @@ module _ (rows : List Row) (k : ℕ) (r : Row) (within : k < length rows) where
   pub turns_written : (n len : ℕ) → r.turn ≡ (get_or rows k no_row).turn → TurnsWithin rows n len → TurnsWithin (slice_set rows k r) n len
   turns_written n len same turns j below = subst (λ (t : ℕ). t < len) (sym (write_leaves (λ (v : Row). v.turn) same j)) (turns j below)
 
-  pub marks_written : (len : ℕ) (begun : Bool) → r.mark ≡ (get_or rows k no_row).mark → Unmarked rows len begun → Unmarked (slice_set rows k r) len begun
-  marks_written len begun same marks on j below = write_leaves (λ (v : Row). v.mark) same j ∙ marks on j below
+  pub unlisted_written : (len : ℕ) (begun : Bool) → r.listed ≡ (get_or rows k no_row).listed → Unlisted rows len begun → Unlisted (slice_set rows k r) len begun
+  unlisted_written len begun same unlisted on j below = write_leaves (λ (v : Row). v.listed) same j ∙ unlisted on j below
 
   pub winners_written : (len : ℕ) → (k < len → r.winner < len) → WinnersWithin rows len → WinnersWithin (slice_set rows k r) len
   winners_written len new winners j below =

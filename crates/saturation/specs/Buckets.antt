@@ -1,5 +1,5 @@
 -- Buckets of rows: where a statement is looked for.
-use Rattle.std.specs.Prelude.{ℕ, ◌+◌, ◌*◌, ◌/◌, ◌%◌, ◌^◌, List, length, slice_index_or, slice_set}
+use Rattle.std.specs.Prelude.{ℕ, ◌+◌, ◌*◌, ◌/◌, ◌%◌, ◌^◌, List, slice_index_or, slice_set}
 use Rattle.standpoint.specs.declared.statement.Statement.{Statement}
 use Rattle.saturation.specs.declared.buckets.TheConstants.{SPREAD}
 use Rattle.saturation.specs.declared.row.Row.{Row}
@@ -18,13 +18,13 @@ mixed hash number = (hash + number) % 2 ^ 64 * SPREAD % 2 ^ 64
 unfoldable pub bucket_of : ℕ → Statement → ℕ
 bucket_of buckets x = mixed (mixed 0 (triple x.first x.second x.third)) (triple x.shape x.fourth x.fifth) / 2 ^ 32 * buckets % 2 ^ 64 / 2 ^ 32
 
--- there are as many buckets as rows
-abbrev pub bucket_at : List Row → ℕ → ℕ
-bucket_at rows k = bucket_of (length rows) (slice_index_or rows k no_row).statement
+-- the bucket of a row's statement, among so many
+abbrev pub bucket_at : ℕ → List Row → ℕ → ℕ
+bucket_at buckets rows k = bucket_of buckets (slice_index_or rows k no_row).statement
 
 -- the taken rows are in chains, by statement
-abbrev pub Indexed : List Row → ℕ → Type 0
-Indexed rows len = RowsChained (λ r. r.index) (bucket_at rows) rows len
+abbrev pub Indexed : ℕ → List Row → ℕ → Type 0
+Indexed buckets rows len = RowsChained (λ r. r.index) (bucket_at buckets rows) rows len
 
 abbrev pub headed : Row → ℕ → Row
 headed r k = record r { index = chain k r.index.link }

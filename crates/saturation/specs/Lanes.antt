@@ -1,5 +1,5 @@
 -- Where the premises that may join with given ones are found.
-use Rattle.std.specs.Prelude.{◌≡◌, ℕ, Bool, cond, ◌==◌, ◌||◌, List, length}
+use Rattle.std.specs.Prelude.{◌≡◌, ℕ, Bool, cond, ◌==◌, ◌||◌, List}
 use Rattle.standpoint.specs.declared.statement.Statement.{Statement}
 use Rattle.standpoint.specs.Statements.{statement}
 use Rattle.saturation.specs.declared.row.Row.{Row}
@@ -146,26 +146,26 @@ beside rule First n x = beside_first rule n x
 beside rule Second n x = beside_second rule x
 beside rule Third n x = beside_third rule x
 
--- the last of three premises, beside the newest x and its partner y
-abbrev pub last_lane : ℕ → Position → Statement → Statement → Lane
-last_lane rule First x y =
+-- the last of three premises, beside the newest x, settled at n, and its partner y; with fewer premises n stands for it
+abbrev pub last_lane : ℕ → Position → ℕ → Statement → Statement → Lane
+last_lane rule First n x y =
     cond (rule == 3) (Only Ending (statement 1 x.first y.second 0 0 0))
     (cond (rule == 14) (Along Inner (statement 3 0 0 x.first x.fourth 0))
     (cond (rule == 15) (Along Source (statement 5 x.first x.fourth y.third 0 0))
     (cond (rule == 17) (Only Inner (statement 3 x.first x.second x.third x.fourth y.third))
-    Nowhere)))
-last_lane rule Second x y =
+    (Alone n))))
+last_lane rule Second n x y =
     cond (rule == 3) (Only Ending (statement 1 x.first y.first 0 0 0))
     (cond (rule == 14) (Along Source (statement 8 y.first y.third 0 0 0))
     (cond (rule == 15) (Along Ending (statement 5 x.first 0 y.second x.second 0))
     (cond (rule == 17) (Only Inner (statement 3 x.first x.second x.third x.fourth y.second))
-    Nowhere)))
-last_lane rule Third x y =
+    (Alone n))))
+last_lane rule Third n x y =
     cond (rule == 3) (Only Ending (statement 1 y.first x.second 0 0 0))
     (cond (rule == 14) (Along Inner (statement 3 0 0 y.first y.fourth 0))
     (cond (rule == 15) (Along Source (statement 5 y.first y.fourth x.third 0 0))
     (cond (rule == 17) (Only Inner (statement 3 y.first y.second y.third y.fourth x.third))
-    Nowhere)))
+    (Alone n))))
 
 -- y, settled at k, is on a lane
 abbrev pub Within : Lane → ℕ → Statement → Type 0
@@ -178,20 +178,20 @@ Within (Outer standpoint) k y = y.first ≡ standpoint
 Within (Inside standpoint) k y = (y.shape ≡ 3) × (y.third ≡ standpoint)
 
 -- the bucket of each settled place, and that of the lane: a walk goes along the places where both are the same
-abbrev pub track : List Row → Lane → ℕ → ℕ
-track rows Nowhere k = 0
-track rows (Alone n) k = k
-track rows (Along side node) k = side_bucket side rows k
-track rows (AlongIn standpoint side node) k = side_bucket side rows k
-track rows (Only side x) k = side_bucket side rows k
-track rows (Outer standpoint) k = 0
-track rows (Inside standpoint) k = 0
+abbrev pub track : ℕ → List Row → Lane → ℕ → ℕ
+track buckets rows Nowhere k = 0
+track buckets rows (Alone n) k = k
+track buckets rows (Along side node) k = side_bucket side buckets rows k
+track buckets rows (AlongIn standpoint side node) k = side_bucket side buckets rows k
+track buckets rows (Only side x) k = side_bucket side buckets rows k
+track buckets rows (Outer standpoint) k = 0
+track buckets rows (Inside standpoint) k = 0
 
-abbrev pub lane_bucket : List Row → Lane → ℕ
-lane_bucket rows Nowhere = 1
-lane_bucket rows (Alone n) = n
-lane_bucket rows (Along side node) = bucket_of (length rows) node
-lane_bucket rows (AlongIn standpoint side node) = bucket_of (length rows) node
-lane_bucket rows (Only side x) = bucket_of (length rows) (node_of side x)
-lane_bucket rows (Outer standpoint) = 0
-lane_bucket rows (Inside standpoint) = 0
+abbrev pub lane_bucket : ℕ → Lane → ℕ
+lane_bucket buckets Nowhere = 1
+lane_bucket buckets (Alone n) = n
+lane_bucket buckets (Along side node) = bucket_of buckets node
+lane_bucket buckets (AlongIn standpoint side node) = bucket_of buckets node
+lane_bucket buckets (Only side x) = bucket_of buckets (node_of side x)
+lane_bucket buckets (Outer standpoint) = 0
+lane_bucket buckets (Inside standpoint) = 0

@@ -5,6 +5,7 @@ pub mod Buckets
 pub mod Sides
 pub mod Lanes
 pub mod Tables
+pub mod Memory
 pub mod Places
 pub mod Offering
 pub mod Searching

@@ -5,13 +5,15 @@ use Rattle.standpoint.specs.Lists.{In}
 use Rattle.standpoint.specs.Algebra.{Algebra, NoWorse}
 use Rattle.standpoint.specs.Derivations.{Base}
 use Rattle.saturation.specs.declared.row.Kept.{Kept}
+use Rattle.saturation.specs.Rows.{StatementsApart}
 use Rattle.saturation.specs.Tables.{State, row_at, statement_at, turn_at, OpenAt, Present, Absent, has_room}
+use Rattle.saturation.specs.Memory.{Leaves}
 use Rattle.saturation.specs.Tournament.{Played}
 use Rattle.saturation.specs.Places.{KeptRight}
 
 -- no statement stands in two taken rows
 abbrev pub Apart : {G : Type 0} → State G → Type 0
-Apart s = (i j : ℕ) → i < s.len → j < s.len → statement_at s i ≡ statement_at s j → i ≡ j
+Apart s = StatementsApart s.rows s.len
 
 pub record BestOf {G : Type 0} (a : Algebra G) (s : State G) (offered : List (Statement × G)) : Type 0 where
   pub apart : Apart s
@@ -33,8 +35,7 @@ pub record Grown {G : Type 0} (s t : State G) : Type 0 where
   pub turns : (k : ℕ) → k < s.len → turn_at t k ≡ turn_at s k
   pub fresh : (k : ℕ) → s.len ≤ k → k < t.len → OpenAt t k
   pub kept : (k : ℕ) → k < s.len → (OpenAt s k → ⊥) → ((row_at t k).kept ≡ (row_at s k).kept) × ((d : G) → slice_index_or t.grades k d ≡ slice_index_or s.grades k d)
-  pub rows_long : length t.rows ≡ length s.rows
-  pub grades_long : length t.grades ≡ length s.grades
+  pub leaves : Leaves s t
 
 -- one offer more, or no row is free for it
 pub record Taken {G : Type 0} (a : Algebra G) (s t : State G) (x : Statement) (g : G) (r : Bool) : Type 0 where

@@ -1,5 +1,5 @@
 -- Rows alone: what a table's ghost fields say of them.
-use Rattle.std.specs.Prelude.{◌≡◌, ℕ, ◌<◌, Bool, true, false, List, None, Option, slice_index_or}
+use Rattle.std.specs.Prelude.{◌≡◌, ℕ, ◌<◌, min, Bool, true, List, length, None, Some, Option, slice_index_or}
 use Rattle.standpoint.specs.Statements.{statement}
 use Rattle.saturation.specs.declared.row.Kept.{Kept}
 use Rattle.saturation.specs.declared.row.Chain.{Chain}
@@ -28,16 +28,38 @@ no_row = record {
   ending = no_chain;
   through = no_chain;
   kept = kept 0 0 0 0;
-  mark = false;
+  listed = 0;
 }
+
+-- how many rows are used: the shorter of both lengths, at most 16,777,215
+abbrev pub rows_in : {G : Type 0} → List Row → List G → ℕ
+rows_in rows grades = min (min (length rows) (length grades)) 16777215
 
 -- each turn so far settled a taken row
 abbrev pub TurnsWithin : List Row → ℕ → ℕ → Type 0
 TurnsWithin rows settled len = (k : ℕ) → k < settled → (slice_index_or rows k no_row).turn < len
 
--- no mark stands in a taken row of a table that is begun
-abbrev pub Unmarked : List Row → ℕ → Bool → Type 0
-Unmarked rows len begun = begun ≡ true → (k : ℕ) → k < len → (slice_index_or rows k no_row).mark ≡ false
+-- the row that was settled k-th has this place
+abbrev pub TurnsPlaced : List Row → ℕ → Type 0
+TurnsPlaced rows settled = (k : ℕ) → k < settled → (slice_index_or rows (slice_index_or rows k no_row).turn no_row).place ≡ Some k
+
+-- a taken row with a place was settled in that turn
+abbrev pub PlacesTurned : List Row → ℕ → ℕ → Type 0
+PlacesTurned rows settled len = (i k : ℕ) → i < len → (slice_index_or rows i no_row).place ≡ Some k → (k < settled) × ((slice_index_or rows k no_row).turn ≡ i)
+
+-- no statement stands in two taken rows
+abbrev pub StatementsApart : List Row → ℕ → Type 0
+StatementsApart rows len = (i j : ℕ) → i < len → j < len → (slice_index_or rows i no_row).statement ≡ (slice_index_or rows j no_row).statement → i ≡ j
+
+-- places and turns are inverse, and a statement stands once
+pub record InPlace (rows : List Row) (settled len : ℕ) : Type 0 where
+  pub places : TurnsPlaced rows settled
+  pub back : PlacesTurned rows settled len
+  pub apart : StatementsApart rows len
+
+-- no step is listed in a taken row of a table that is begun
+abbrev pub Unlisted : List Row → ℕ → Bool → Type 0
+Unlisted rows len begun = begun ≡ true → (k : ℕ) → k < len → (slice_index_or rows k no_row).listed ≡ 0
 
 -- each taken row names a taken row as the winner at it
 abbrev pub WinnersWithin : List Row → ℕ → Type 0

@@ -1,5 +1,7 @@
 -- A table that holds a run.
-use Rattle.std.specs.Prelude.{◌≡◌, ℕ, List, [], ◌∷◌, ◌++◌, length}
+use Rattle.std.specs.Prelude.{◌≡◌, ℕ, ◌≤◌, true, false, cond, List, [], ◌∷◌, ◌++◌, length, Ok, Err, Result, nat_le}
+use Rattle.standpoint.specs.declared.refusal.Refusal.{Refusal}
+use Rattle.standpoint.specs.declared.refusal.Refusal.TheVariants.{NotBegun}
 use Rattle.standpoint.specs.declared.statement.Statement.{Statement}
 use Rattle.standpoint.specs.Lists.{In}
 use Rattle.standpoint.specs.Algebra.{Algebra}
@@ -9,7 +11,10 @@ use Rattle.runs.specs.declared.Stand.{Stand}
 use Rattle.runs.specs.declared.Stand.TheVariants.{Open, Ended, Full}
 use Rattle.saturation.specs.declared.turn.Turn.{Turn}
 use Rattle.saturation.specs.declared.turn.Turn.TheVariants as turn
-use Rattle.saturation.specs.Tables.{State, capacity}
+use Rattle.saturation.specs.declared.table.Table.{Table}
+use Rattle.saturation.specs.Phases.{is_begun, sizes_of, stands_full, phase_of}
+use Rattle.saturation.specs.Tables.{State, view, capacity}
+use Rattle.saturation.specs.Memory.{SettlesRows}
 use Rattle.saturation.specs.Offering.{Apart, Ranked, RowsRight, Explained}
 use Rattle.saturation.specs.Searching.{Lists}
 
@@ -48,9 +53,27 @@ HoldsAs a base settled s Open = Holds a base settled s
 HoldsAs a base settled s Ended = Holds a base settled s
 HoldsAs a base settled s Full = HoldsFull a base settled s
 
+-- how a table stands
+abbrev pub stand_of : {G : Type 0} → Table G → Stand
+stand_of t = cond (stands_full t.phase) Full (cond (nat_le t.len t.settled) Ended Open)
+
 -- n turns, unless the run stands ended or full before: how many were taken, and how the run stands
 abbrev pub Settles : {G : Type 0} → Algebra G → ℕ → State G → State G → ℕ → ℕ → Stand → Type 0
 Settles {G} a individuals s t n count stand =
     (base : Base G) → base.sizes.individuals ≡ individuals → (settled : Settled G) → Holds a base settled s →
     (later : Settled G) × ((length later ≡ count) × (Settling a base (capacity s) n settled later
     × (Stands a base (capacity s) (settled ++ later) stand × HoldsAs a base (settled ++ later) t stand)))
+
+-- what a settle makes of a table that is begun, whatever its rows hold: nothing where it stands full, else it seals the base, settles so
+-- many more, and stands full from then on or not
+pub data SettledRows {G : Type 0} (s t : Table G) : ℕ → Stand → Type 0 where
+  stood_full : stands_full s.phase ≡ true → view t ≡ view s → t.phase ≡ s.phase → SettledRows s t 0 Full
+  went_on : {count : ℕ} {stand : Stand} → stands_full s.phase ≡ false → t.phase ≡ phase_of (sizes_of s.phase) stand →
+      SettlesRows (view s) (view t) count → SettledRows s t count stand
+
+-- the answer of settle: refused where no run is begun
+abbrev pub TableSettles : {G : Type 0} → Algebra G → ℕ → Table G → Table G → Result (ℕ × Stand) Refusal → Type 0
+TableSettles a n s t (Ok r) =
+    (is_begun s.phase ≡ true) × (r.0 ≤ n) × SettledRows s t r.0 r.1
+    × (stands_full s.phase ≡ false → Settles a (sizes_of s.phase).individuals (view s) (view t) n r.0 r.1)
+TableSettles a n s t (Err e) = (view t ≡ view s) × (t.phase ≡ s.phase) × (e ≡ NotBegun) × (is_begun s.phase ≡ false)

@@ -1,15 +1,15 @@
 -- What a search offers.
-use Rattle.std.specs.Prelude.{◌≡◌, ◌==◌, cond, ℕ, ◌<◌, ◌≤◌, Bool, true, false, ◌⊎◌, List, [], ◌∷◌, ◌++◌, length, Some, slice_index_or}
+use Rattle.std.specs.Prelude.{◌≡◌, ◌==◌, cond, ℕ, ◌<◌, ◌≤◌, Bool, true, false, List, [], ◌∷◌, ◌++◌, length, Some, slice_index_or}
 use Rattle.standpoint.specs.declared.statement.Statement.{Statement}
 use Rattle.standpoint.specs.Lists.{In}
 use Rattle.standpoint.specs.Algebra.{Algebra}
+use Rattle.standpoint.specs.Rules.{arity_of}
 use Rattle.standpoint.specs.Derivations.{Base}
 use Rattle.saturation.specs.declared.places.Position.{Position}
 use Rattle.saturation.specs.declared.places.Position.TheVariants.{First, Second, Third}
 use Rattle.saturation.specs.Tables.{State, row_at, statement_at, turn_at, OpenAt, Absent, has_room}
 use Rattle.saturation.specs.declared.lane.Lane.{Lane}
 use Rattle.saturation.specs.Lanes.{Within}
-use Rattle.saturation.specs.Places.{Step}
 use Rattle.saturation.specs.Offering.{Apart, Ranked, Grown, RowsRight}
 
 -- the k-th settled statement with its grade, as the rows have it
@@ -76,11 +76,6 @@ arranged rule First n i j = n ∷ j ∷ i ∷ []
 arranged rule Second n i j = cond (rule == 14) (i ∷ n ∷ j ∷ []) (j ∷ n ∷ i ∷ [])
 arranged rule Third n i j = i ∷ j ∷ n ∷ []
 
--- what a rule gives with n at this position, its partner i, and some last one
-abbrev pub Lasts : {G : Type 0} → Algebra G → ℕ → ℕ → Position → ℕ → ℕ → List (Statement × G) → Statement × G → Type 0
-Lasts a individuals rule position n i settled o = (j : ℕ) × (j < length settled) × Step a individuals settled rule (arranged rule position n i j) o
-
--- the same, or without a last one, or by itself
-abbrev pub Around : {G : Type 0} → Algebra G → ℕ → ℕ → Position → ℕ → ℕ → List (Statement × G) → Statement × G → Type 0
-Around a individuals rule position n i settled o =
-    Step a individuals settled rule (n ∷ []) o ⊎ (Step a individuals settled rule (paired position n i) o ⊎ Lasts a individuals rule position n i settled o)
+-- as many as the rule has premises
+abbrev pub seated : ℕ → Position → ℕ → ℕ → ℕ → List ℕ
+seated rule position n i j = cond (arity_of rule == 1) (n ∷ []) (cond (arity_of rule == 2) (paired position n i) (arranged rule position n i j))

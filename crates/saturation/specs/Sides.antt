@@ -1,5 +1,5 @@
 -- Settled statements in chains by some of their numbers, those that a rule knows of the premises it looks for.
-use Rattle.std.specs.Prelude.{ℕ, ◌<◌, ◌==◌, ◌||◌, cond, List, length, Some, slice_index_or, slice_set}
+use Rattle.std.specs.Prelude.{ℕ, ◌<◌, ◌==◌, ◌||◌, cond, List, Some, slice_index_or, slice_set}
 use Rattle.standpoint.specs.declared.statement.Statement.{Statement}
 use Rattle.saturation.specs.declared.row.Chain.{Chain}
 use Rattle.saturation.specs.declared.row.Row.{Row}
@@ -64,26 +64,26 @@ chain_of Through r = r.through
 abbrev pub settled_at : List Row → ℕ → Statement
 settled_at rows k = (slice_index_or rows (slice_index_or rows k no_row).turn no_row).statement
 
--- there are as many buckets on each side as rows
-abbrev pub side_bucket : Side → List Row → ℕ → ℕ
-side_bucket side rows k = bucket_of (length rows) (node_of side (settled_at rows k))
+-- the bucket of the statement settled k-th on a side, among so many
+abbrev pub side_bucket : Side → ℕ → List Row → ℕ → ℕ
+side_bucket side buckets rows k = bucket_of buckets (node_of side (settled_at rows k))
 
 -- the settled statements are in chains on each side
-abbrev pub Sided : List Row → ℕ → Type 0
-Sided rows settled = (side : Side) → RowsChained (chain_of side) (side_bucket side rows) rows settled
+abbrev pub Sided : ℕ → List Row → ℕ → Type 0
+Sided buckets rows settled = (side : Side) → RowsChained (chain_of side) (side_bucket side buckets rows) rows settled
 
 -- where statements with a node on a side are found among the settled ones
-abbrev pub spot_of : Side → List Row → ℕ → Statement → Spot
-spot_of side rows settled node = record { bucket = bucket_of (length rows) node; last = last_in (side_bucket side rows) (bucket_of (length rows) node) settled }
+abbrev pub spot_of : Side → ℕ → List Row → ℕ → Statement → Spot
+spot_of side buckets rows settled node = record { bucket = bucket_of buckets node; last = last_in (side_bucket side buckets rows) (bucket_of buckets node) settled }
 
 -- where a statement goes on each side
-abbrev pub spots_of : List Row → ℕ → Statement → Spots
-spots_of rows settled x = record {
-  source = spot_of Source rows settled (source_of x);
-  target = spot_of Target rows settled (target_of x);
-  inner = spot_of Inner rows settled (inner_of x);
-  ending = spot_of Ending rows settled (ending_of x);
-  through = spot_of Through rows settled (through_of x);
+abbrev pub spots_of : ℕ → List Row → ℕ → Statement → Spots
+spots_of buckets rows settled x = record {
+  source = spot_of Source buckets rows settled (source_of x);
+  target = spot_of Target buckets rows settled (target_of x);
+  inner = spot_of Inner buckets rows settled (inner_of x);
+  ending = spot_of Ending buckets rows settled (ending_of x);
+  through = spot_of Through buckets rows settled (through_of x);
 }
 
 abbrev pub on : Spots → Side → Spot
@@ -93,9 +93,11 @@ on spots Inner = spots.inner
 on spots Ending = spots.ending
 on spots Through = spots.through
 
--- each spot is a bucket of the rows
+-- each spot is one of so many buckets
 abbrev pub SpotsWithin : Spots → ℕ → Type 0
-SpotsWithin spots rows = (spots.source.bucket < rows) × (spots.target.bucket < rows) × (spots.inner.bucket < rows) × (spots.ending.bucket < rows) × (spots.through.bucket < rows)
+SpotsWithin spots buckets =
+    (spots.source.bucket < buckets) × (spots.target.bucket < buckets) × (spots.inner.bucket < buckets)
+    × (spots.ending.bucket < buckets) × (spots.through.bucket < buckets)
 
 abbrev pub placed : Row → ℕ → Row
 placed r p = record r { place = Some p }

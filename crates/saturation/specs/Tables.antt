@@ -1,10 +1,10 @@
 -- A table as a plain state, and what one write makes of it.
-use Rattle.std.specs.Prelude.{◌≡◌, ℕ, ◌+◌, ◌<◌, min, Bool, false, List, length, get_or, Some, None, Option, ◌≢◌, nat_lt, slice_index_or, slice_set}
+use Rattle.std.specs.Prelude.{◌≡◌, ℕ, ◌+◌, ◌<◌, Bool, List, get_or, Some, None, Option, ◌≢◌, nat_lt, slice_index_or, slice_set}
 use Rattle.standpoint.specs.declared.statement.Statement.{Statement}
 use Rattle.saturation.specs.declared.row.Kept.{Kept}
 use Rattle.saturation.specs.declared.row.Row.{Row}
 use Rattle.saturation.specs.declared.table.Table.{Table}
-use Rattle.saturation.specs.Rows.{chain, no_row}
+use Rattle.saturation.specs.Rows.{chain, no_row, rows_in}
 use Rattle.saturation.specs.Chains.{last_in}
 use Rattle.saturation.specs.Buckets.{bucket_of, bucket_at, entered}
 use Rattle.saturation.specs.declared.side.Spots.{Spots}
@@ -28,9 +28,9 @@ OverSame s t = (t.rows.ghost_name ≡ s.rows.ghost_name) × (t.grades.ghost_name
 abbrev pub Same : {G : Type 0} → Table G → Table G → Type 0
 Same s t = (t.rows.ghost_name ≡ s.rows.ghost_name) × (t.grades.ghost_name ≡ s.grades.ghost_name) × (t.phase ≡ s.phase)
 
--- how many rows there are: the shorter of both lengths, at most 16,777,215
+-- how many rows the table uses
 abbrev pub capacity : {G : Type 0} → State G → ℕ
-capacity s = min (min (length s.rows) (length s.grades)) 16777215
+capacity s = rows_in s.rows s.grades
 
 abbrev pub has_room : {G : Type 0} → State G → Bool
 has_room s = nat_lt s.len (capacity s)
@@ -67,16 +67,20 @@ Found s x r = RowOf s.rows s.len x r
 abbrev pub with_row : {G : Type 0} → State G → ℕ → Row → State G
 with_row s k r = record { rows = slice_set s.rows k r; grades = s.grades; len = s.len; settled = s.settled }
 
+-- a row for x, unsettled, with its step
+abbrev pub entry : Row → Statement → Kept → Row
+entry r x step = record r { statement = x; kept = step; place = None; listed = 0 }
+
 -- the next row for x, linked to the last of its bucket, and its own winner
 abbrev pub taken : List Row → ℕ → Statement → Kept → Option ℕ → Row
-taken rows n x step link = record (slice_index_or rows n no_row) { statement = x; kept = step; place = None; mark = false; winner = n; index = chain (slice_index_or rows n no_row).index.head link }
+taken rows n x step link = record (entry (slice_index_or rows n no_row) x step) { winner = n; index = chain (slice_index_or rows n no_row).index.head link }
 
 abbrev pub taken_row : {G : Type 0} → State G → Statement → Kept → Row
-taken_row s x step = taken s.rows s.len x step (last_in (bucket_at s.rows) (bucket_of (length s.rows) x) s.len)
+taken_row s x step = taken s.rows s.len x step (last_in (bucket_at (capacity s) s.rows) (bucket_of (capacity s) x) s.len)
 
 -- one row and its grade more
 abbrev pub pushed : {G : Type 0} → State G → Row → G → State G
-pushed s x g = record { rows = entered s.rows s.len x (bucket_of (length s.rows) x.statement); grades = slice_set s.grades s.len g; len = s.len + 1; settled = s.settled }
+pushed s x g = record { rows = entered s.rows s.len x (bucket_of (capacity s) x.statement); grades = slice_set s.grades s.len g; len = s.len + 1; settled = s.settled }
 
 abbrev pub rekept : Row → Kept → Row
 rekept r k = record r { kept = k }
@@ -87,7 +91,7 @@ improved s i g k = record { rows = slice_set s.rows i (rekept (row_at s i) k); g
 
 -- where row i goes in the chains
 abbrev pub spots_at : {G : Type 0} → State G → ℕ → Spots
-spots_at s i = spots_of s.rows s.settled (statement_at s i)
+spots_at s i = spots_of (capacity s) s.rows s.settled (statement_at s i)
 
 -- row i is settled in the next turn
 abbrev pub settled_row : {G : Type 0} → State G → ℕ → State G

@@ -1,6 +1,6 @@
 -- A tournament over the taken rows: row k plays with the winners at rows 2k + 1 and 2k + 2, so that the next one to be settled wins at
 -- row 0.
-use Rattle.std.specs.Prelude.{◌≡◌, ℕ, zero, suc, ◌/◌, ◌<◌, Bool, true, false, length, Some, None, Option}
+use Rattle.std.specs.Prelude.{◌≡◌, ℕ, zero, suc, ◌/◌, ◌<◌, ◌≤◌, Bool, true, false, length, Some, None, Option}
 use Rattle.standpoint.specs.Algebra.{Algebra}
 use Rattle.saturation.specs.declared.row.Row.{Row}
 use Rattle.saturation.specs.Tables.{State, OpenAt, row_at, with_row}
@@ -49,10 +49,11 @@ won_by r w = record r { winner = w }
 abbrev pub crowned : {G : Type 0} → State G → ℕ → ℕ → State G
 crowned s k w = with_row s k (won_by (row_at s k) w)
 
--- nothing but winners differs
+-- nothing but winners of taken rows differs
 pub record ButWinners {G : Type 0} (s t : State G) : Type 0 where
   pub len : t.len ≡ s.len
   pub settled : t.settled ≡ s.settled
   pub grades : t.grades ≡ s.grades
   pub rows_long : length t.rows ≡ length s.rows
   pub rows : (k : ℕ) → won_by (row_at t k) 0 ≡ won_by (row_at s k) 0
+  pub free : (k : ℕ) → s.len ≤ k → row_at t k ≡ row_at s k

@@ -1,5 +1,5 @@
 -- One turn: the next statement is settled, and what follows from it is offered.
-use Rattle.std.specs.Prelude.{◌≡◌, ℕ, ◌+◌, ◌<◌, Bool, true, false, ◌⊎◌, List, [], ◌∷◌, ◌++◌, length}
+use Rattle.std.specs.Prelude.{◌≡◌, ℕ, ◌+◌, ◌<◌, ◌≤◌, Bool, true, false, ◌⊎◌, List, [], ◌∷◌, ◌++◌, length}
 use Rattle.standpoint.specs.declared.statement.Statement.{Statement}
 use Rattle.standpoint.specs.Lists.{In}
 use Rattle.standpoint.specs.Algebra.{Algebra, NoWorse}
@@ -9,6 +9,7 @@ use Rattle.runs.specs.Runs.{Unsettled}
 use Rattle.saturation.specs.declared.turn.Turn.{Turn}
 use Rattle.saturation.specs.declared.turn.Turn.TheVariants.{Nothing, Settled, Overflowed}
 use Rattle.saturation.specs.Tables.{State, statement_at, OpenAt}
+use Rattle.saturation.specs.Memory.{Leaves, KeepsSettled}
 use Rattle.saturation.specs.Places.{Uses}
 use Rattle.saturation.specs.Offering.{Apart, Ranked, RowsRight, Explained}
 use Rattle.saturation.specs.Searching.{Lists, Enumerated, Stuck, NewFrom}
@@ -24,8 +25,9 @@ pub record FirstOffered {G : Type 0} (a : Algebra G) (settled offered : List (St
 pub record TookTurn {G : Type 0} (a : Algebra G) (individuals : ℕ) (s t : State G) (r : Bool) : Type 0 where
   pub o : Statement × G
   pub long : t.settled ≡ s.settled + 1
-  pub rows_long : length t.rows ≡ length s.rows
-  pub grades_long : length t.grades ≡ length s.grades
+  pub more : s.len ≤ t.len
+  pub leaves : Leaves s t
+  pub kept_settled : KeepsSettled s t
   pub next : (settled offered : List (Statement × G)) → Lists s settled → Ranked a s offered → FirstOffered a settled offered o
   pub lists : (settled : List (Statement × G)) → Lists s settled → Lists t (settled ++ o ∷ [])
   pub apart : Apart s → Apart t
@@ -42,3 +44,9 @@ abbrev pub Turned : {G : Type 0} → Algebra G → ℕ → State G → State G �
 Turned {G} a individuals s t Nothing = (t ≡ s) × ((settled offered : List (Statement × G)) → Lists s settled → Ranked a s offered → (k : ℕ) → k < s.len → OpenAt s k → ⊥)
 Turned a individuals s t Settled = TookTurn a individuals s t true
 Turned a individuals s t Overflowed = TookTurn a individuals s t false
+
+-- how many statements a turn settles
+abbrev pub settled_by : Turn → ℕ
+settled_by Nothing = 0
+settled_by Settled = 1
+settled_by Overflowed = 1

@@ -1,6 +1,7 @@
-// The index inside the rows: there are as many buckets as rows, and a statement is looked for in its own.
+// The index inside the rows: there are as many buckets as the table uses rows, and a statement is looked for in its own.
 ghost use Rattle.std.specs.Prelude.{◌≡◌, ◌<◌, length};
 ghost use Rattle.saturation.specs.Chains.{last_in};
+ghost use Rattle.saturation.specs.Tables.{view, capacity};
 ghost use Rattle.saturation.specs.Buckets.{triple, mixed, bucket_of, bucket_at, entered};
 
 use crate::row::Row;
@@ -25,7 +26,7 @@ fn mixed(hash: u64, number: u64) -> u64
 }
 
 // The bucket of a statement among so many: by the high bits, on which all numbers bear, and a product, since a division takes longer.
-pub(crate) fn bucket_of(statement: Statement, buckets: usize) -> usize
+fn bucket_of(statement: Statement, buckets: usize) -> usize
     requires { 0 < buckets }
     ensures value { result ≡ bucket_of buckets statement }
     ensures within { result < buckets }
@@ -53,15 +54,24 @@ pub(crate) fn enter(rows: &mut [Row], at: usize, row: Row, bucket: usize)
 }
 
 impl<'a, G: Copy> Table<'a, G> {
+    // The bucket of a statement among as many as the table uses rows.
+    pub(crate) fn bucket(&self, statement: Statement) -> usize
+        requires { 0 < capacity (view self.now) }
+        ensures value { result ≡ bucket_of (capacity (view self.now)) statement }
+        ensures within { result < capacity (view self.now) }
+    {
+        bucket_of(statement, self.capacity())
+    }
+
     // The last taken row of a bucket, or none. A head counts only where it names a taken row of its own bucket, so that lent memory
     // need not be cleared first.
     pub(crate) fn last_in(&self, bucket: usize) -> Option<u32>
-        requires { bucket < length self.now.rows.now }
-        ensures { result ≡ last_in (bucket_at self.now.rows.now) bucket self.now.len }
+        requires { bucket < capacity (view self.now) }
+        ensures { result ≡ last_in (bucket_at (capacity (view self.now)) self.now.rows.now) bucket self.now.len }
     {
         let head = self.rows[bucket].index.head;
         let at = head as usize;
-        if at < self.len && bucket_of(self.rows[at].statement, self.rows.len()) == bucket {
+        if at < self.len && self.bucket(self.rows[at].statement) == bucket {
             Some(head)
         } else {
             None

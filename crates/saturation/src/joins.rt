@@ -192,9 +192,15 @@ pub(crate) fn beside(rule: Rule, position: Position, newest: u32, x: Statement) 
     }
 }
 
-// Where the last of three premises are, beside the newest x and its partner y.
-pub(crate) fn last_lane(rule: Rule, position: Position, x: Statement, y: Statement) -> Lane
-    ensures { result ≡ last_lane (number_of_rule rule) position x y }
+// Where the last of three premises are, beside the newest x and its partner y. By a rule with fewer, the newest stands for it.
+pub(crate) fn last_lane(
+    rule: Rule,
+    position: Position,
+    newest: u32,
+    x: Statement,
+    y: Statement,
+) -> Lane
+    ensures { result ≡ last_lane (number_of_rule rule) position newest x y }
 {
     match (rule, position) {
         (Rule::SharperThanBoth, Position::First) => Lane::sharpening(x.first, y.second),
@@ -211,6 +217,6 @@ pub(crate) fn last_lane(rule: Rule, position: Position, x: Statement, y: Stateme
         (Rule::ConjunctionMet, Position::First) => Lane::inclusion_to(x, y.third),
         (Rule::ConjunctionMet, Position::Second) => Lane::inclusion_to(x, y.second),
         (Rule::ConjunctionMet, Position::Third) => Lane::inclusion_to(y, x.third),
-        _ => Lane::Nowhere,
+        _ => Lane::Alone(newest),
     }
 }

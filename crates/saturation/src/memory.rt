@@ -2,14 +2,16 @@
 ghost use Rattle.std.specs.Prelude.{◌≡◌, true, false, MatchResult};
 ghost use Rattle.standpoint.specs.declared.refusal.Refusal.TheVariants.{NotBegun};
 ghost use Rattle.saturation.specs.declared.phase.Phase.TheVariants.{Idle, Taking};
-ghost use Rattle.saturation.specs.Phases.{is_begun, sizes_of, sealed_phase};
+ghost use Rattle.saturation.specs.Phases.{is_begun, sizes_of};
 ghost use Rattle.saturation.specs.Tables.{view, fresh, capacity, OverSame};
 
 use crate::phase::Phase;
 use crate::row::Row;
-use crate::rows::MOST_ROWS;
 use crate::table::Table;
 use standpoint::{Refusal, Sizes};
+
+// No table uses more rows.
+const MOST_ROWS: usize = 16_777_215;
 
 impl<'a, G: Copy> Table<'a, G> {
     // A table that is not begun, over memory that may hold anything.
@@ -53,20 +55,5 @@ impl<'a, G: Copy> Table<'a, G> {
         self.settled = 0;
         self.len = 0;
         self.phase = Phase::Taking(sizes);
-    }
-
-    // Seals the base of a run that is begun; the run may stand full.
-    pub fn seal(&mut self, full: bool)
-        ensures memory { OverSame self.old self.new }
-        ensures state { view self.new ≡ view self.old }
-        ensures phase { self.new.phase ≡ sealed_phase self.old.phase full }
-    {
-        if let Ok(sizes) = self.sizes() {
-            self.phase = if full {
-                Phase::Full(sizes)
-            } else {
-                Phase::Running(sizes)
-            };
-        }
     }
 }

@@ -1,5 +1,6 @@
 // One offer of a statement at a grade.
 ghost use Rattle.saturation.specs.Tables.{view, Same};
+ghost use Rattle.saturation.specs.Memory.{Offered};
 ghost use Rattle.saturation.specs.Offering.{Taken, Keeps, Outdone};
 ghost use Rattle.std.specs.Prelude.{◌<◌, is_ok};
 
@@ -19,6 +20,7 @@ impl<'a, G: Copy> Table<'a, G> {
     ) -> Result<(), NoRow>
         ensures same { Same self.old self.new }
         ensures state { Taken (K.Kind.algebra kind.now) (view self.old) (view self.new) statement grade (is_ok result) }
+        ensures rows { Offered (K.Kind.algebra kind.now) (view self.old) (view self.new) statement grade kept (is_ok result) }
         ensures keeps { Keeps (K.Kind.algebra kind.now) (view self.old) (view self.new) statement grade kept }
     {
         let Some(i) = self.find(statement) else {

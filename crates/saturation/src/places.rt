@@ -1,7 +1,7 @@
 // Places of premises.
 ghost use Rattle.std.specs.Prelude.{◌≡◌};
 ghost use Rattle.saturation.specs.Places.{listed_places, kept_of};
-ghost use Rattle.saturation.specs.Searching.{SettledPlaces, paired, arranged};
+ghost use Rattle.saturation.specs.Searching.{SettledPlaces, paired, arranged, seated};
 ghost use Rattle.standpoint.specs.RuleNumbers.{number_of_rule};
 
 use crate::row::Kept;
@@ -49,7 +49,7 @@ impl Position {
     pub(crate) const ALL: [Position; 3] = [Position::First, Position::Second, Position::Third];
 
     // Two places, the newest at this position.
-    pub(crate) fn pair(self, newest: usize, i: usize) -> Places
+    fn pair(self, newest: usize, i: usize) -> Places
         ensures { listed_places result ≡ paired self newest i }
     {
         match self {
@@ -59,7 +59,7 @@ impl Position {
     }
 
     // Three places, the newest at this position: i is its partner by the rule, and j the last.
-    pub(crate) fn arrange(self, rule: Rule, newest: usize, i: usize, j: usize) -> Places
+    fn arrange(self, rule: Rule, newest: usize, i: usize, j: usize) -> Places
         ensures { listed_places result ≡ arranged (number_of_rule rule) self newest i j }
     {
         match self {
@@ -67,6 +67,17 @@ impl Position {
             Position::Second if rule == Rule::ExistentialWidened => Places::Three(i, newest, j),
             Position::Second => Places::Three(j, newest, i),
             Position::Third => Places::Three(i, j, newest),
+        }
+    }
+
+    // As many places as the rule has premises.
+    pub(crate) fn seat(self, rule: Rule, newest: usize, i: usize, j: usize) -> Places
+        ensures { listed_places result ≡ seated (number_of_rule rule) self newest i j }
+    {
+        match rule.arity() {
+            1 => Places::One(newest),
+            2 => self.pair(newest, i),
+            _ => self.arrange(rule, newest, i, j),
         }
     }
 }

@@ -1,8 +1,8 @@
 // The rows of a table.
 use standpoint::{ACCEPTED, Statement, TAUTOLOGY};
 
-// The rule, or what stands for one in a `Step`, and the settling places of the premises, from 1, 0 where unused. Plain numbers: a place is written as the count of marked places up to it, and up to 0 there are none, so that
-// no number of premises is a case of its own.
+// The rule, or what stands for one in a `Step`, and the settling places of the premises, from 1, 0 where unused. Plain numbers: 0 is
+// written out as 0, so that no number of premises is a case of its own.
 #[derive(Clone, Copy)]
 pub struct Kept {
     pub rule: u8,
@@ -66,8 +66,9 @@ pub struct Row {
     pub ending: Chain,
     pub through: Chain,
     pub kept: Kept,
-    // A column of its own: stands only while steps are written out.
-    pub mark: bool,
+    // A column of its own: in the k-th row, from 0, the place of the k-th settled statement in the list of steps that is being
+    // written out, from 1; 0 where it is not on that list. A place, and not a mark alone, so that a premise is numbered by one look.
+    pub listed: u32,
 }
 
 impl Row {
@@ -84,6 +85,6 @@ impl Row {
         ending: Chain::EMPTY,
         through: Chain::EMPTY,
         kept: Kept::ACCEPTED,
-        mark: false,
+        listed: 0,
     };
 }

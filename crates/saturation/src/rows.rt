@@ -1,10 +1,10 @@
 // Single rows: looking for one, taking one, changing one.
 ghost use Rattle.std.specs.Prelude.{◌≡◌, ℕ, ◌+◌, ◌<◌, ◌≤◌, false, length, if◌then◌else◌, is_ok, MatchOption, slice_index_or};
-ghost use Rattle.saturation.specs.Tables.{view, Same, Found, has_room, pushed, taken_row, improved, statement_at, turn_at, row_at};
+ghost use Rattle.saturation.specs.Tables.{view, Absent, Same, Found, has_room, pushed, taken_row, improved, statement_at, turn_at, row_at};
 ghost use Rattle.saturation.specs.Searching.{Premise};
 ghost use Rattle.std.specs.Option.{is_some};
 
-use crate::buckets::{bucket_of, enter};
+use crate::buckets::enter;
 use crate::row::{Chain, Kept, Row};
 use crate::table::Table;
 use standpoint::Statement;
@@ -12,9 +12,6 @@ use standpoint::Statement;
 // Every row is taken.
 #[derive(Clone, Copy)]
 pub struct NoRow;
-
-// No table uses more rows.
-pub(crate) const MOST_ROWS: usize = 16_777_215;
 
 impl<'a, G: Copy> Table<'a, G> {
     // The row that holds the statement, or none.
@@ -24,7 +21,7 @@ impl<'a, G: Copy> Table<'a, G> {
         if self.len == 0 {
             return None;
         }
-        let mut at = self.last_in(bucket_of(statement, self.rows.len()));
+        let mut at = self.last_in(self.bucket(statement));
         while let Some(k) = at {
             let row = self.rows[k as usize];
             if row.statement == statement {
@@ -37,21 +34,22 @@ impl<'a, G: Copy> Table<'a, G> {
 
     // Takes one more row, if there is one, for a statement that no row holds yet.
     pub(crate) fn push(&mut self, statement: Statement, kept: Kept, grade: G) -> Result<(), NoRow>
+        requires { Absent (view self.old) statement }
         ensures same { Same self.old self.new }
         ensures room { is_ok result ≡ has_room (view self.old) }
         ensures state { view self.new ≡ (if is_ok result then pushed (view self.old) (taken_row (view self.old) statement kept) grade else view self.old) }
     {
         let at = self.len;
-        if at >= self.rows.len() || at >= self.grades.len() || at >= MOST_ROWS {
+        if at >= self.capacity() {
             return Err(NoRow);
         }
-        let bucket = bucket_of(statement, self.rows.len());
+        let bucket = self.bucket(statement);
         let free = self.rows[at];
         let row = Row {
             statement,
             kept,
             place: None,
-            mark: false,
+            listed: 0,
             winner: at as u32,
             index: Chain {
                 head: free.index.head,

@@ -1,69 +1,18 @@
 // The search for what follows from the newest settled statement.
 ghost use Rattle.std.specs.Prelude.{◌≡◌, ◌<◌, is_ok};
-ghost use Rattle.standpoint.specs.RuleNumbers.{number_of_rule};
-ghost use Rattle.saturation.specs.Tables.{view, Same, statement_at, turn_at};
+ghost use Rattle.saturation.specs.Tables.{view, Same};
 ghost use Rattle.saturation.specs.Places.{Uses};
-ghost use Rattle.saturation.specs.Searching.{OnLane, Went, Lasts, Around};
+ghost use Rattle.saturation.specs.Searching.{Went};
 
 use crate::attempt::Inference;
 use crate::joins::{beside, last_lane, takes};
 use crate::lane::Lane;
-use crate::places::{Places, Position};
+use crate::places::Position;
 use crate::rows::NoRow;
 use crate::table::Table;
 use standpoint::{Kind, Rule};
 
-// Each call says anew that the newest and i are settled: they are places in this very table, and no value beside it keeps them
-// in range.
 impl<'a, G: Copy> Table<'a, G> {
-    // What a rule with three premises gives with the newest at this position, the one settled at i as its partner, and any last.
-    fn lasts<K: Kind<Grade = G>>(
-        &mut self,
-        inference: &Inference<'_, K>,
-        position: Position,
-        newest: usize,
-        i: usize,
-    ) -> Result<(), NoRow>
-        requires { (newest < self.old.settled) × (i < self.old.settled) }
-        ensures same { Same self.old self.new }
-        ensures state { Went (K.Kind.algebra inference.now.kind.now) inference.now.individuals (view self.old) (view self.new) (Lasts (K.Kind.algebra inference.now.kind.now) inference.now.individuals (number_of_rule inference.now.rule) position newest i) (λ l. Uses (K.Kind.algebra inference.now.kind.now) inference.now.individuals l newest) (is_ok result) }
-    {
-        let x = self.settled_statement(newest);
-        let y = self.settled_statement(i);
-        let lane = last_lane(inference.rule, position, x, y);
-        let mut at = self.last_along(&lane);
-        while let Some(j) = at {
-            let j = j as usize;
-            let places = position.arrange(inference.rule, newest, i, j);
-            self.attempt_along(inference, &lane, j, places)?;
-            at = self.next_along(&lane, j);
-        }
-        Ok(())
-    }
-
-    // What a rule gives with the newest at this position and the one settled at i as its partner, if that is on this lane.
-    fn around<K: Kind<Grade = G>>(
-        &mut self,
-        inference: &Inference<'_, K>,
-        position: Position,
-        newest: usize,
-        lane: &Lane,
-        i: usize,
-    ) -> Result<(), NoRow>
-        requires { (newest < self.old.settled) × (i < self.old.settled) }
-        ensures same { Same self.old self.new }
-        ensures state { Went (K.Kind.algebra inference.now.kind.now) inference.now.individuals (view self.old) (view self.new) (λ l o. OnLane lane.now l i × Around (K.Kind.algebra inference.now.kind.now) inference.now.individuals (number_of_rule inference.now.rule) position newest i l o) (λ l. Uses (K.Kind.algebra inference.now.kind.now) inference.now.individuals l newest) (is_ok result) }
-    {
-        if !self.is_along(lane, i) {
-            return Ok(());
-        }
-        match inference.rule.arity() {
-            1 => self.attempt(inference, Places::One(newest)),
-            2 => self.attempt(inference, position.pair(newest, i)),
-            _ => self.lasts(inference, position, newest, i),
-        }
-    }
-
     // Offers all that follows by one rule from settled statements, the newest among them; the first that finds no row ends it.
     pub(crate) fn search<K: Kind<Grade = G>>(
         &mut self,
@@ -89,14 +38,23 @@ impl<'a, G: Copy> Table<'a, G> {
                     continue;
                 }
                 let lane = beside(rule, position, newest as u32, x);
-                let mut at = self.last_along(&lane);
-                while let Some(i) = at {
+                let mut partner = self.last_along(&lane);
+                while let Some(i) = partner {
                     let i = i as usize;
-                    outcome = self.around(&inference, position, newest, &lane, i);
-                    if outcome.is_err() {
-                        break 'search;
+                    let y = self.settled_statement(i);
+                    let met = self.is_along(&lane, i);
+                    let lasts = Lane::when(met, last_lane(rule, position, newest as u32, x, y));
+                    let mut last = self.last_along(&lasts);
+                    while let Some(j) = last {
+                        let j = j as usize;
+                        let places = position.seat(rule, newest, i, j);
+                        outcome = self.attempt_along(&inference, &lasts, j, places);
+                        if outcome.is_err() {
+                            break 'search;
+                        }
+                        last = self.next_along(&lasts, j);
                     }
-                    at = self.next_along(&lane, i);
+                    partner = self.next_along(&lane, i);
                 }
             }
         }

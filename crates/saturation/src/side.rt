@@ -2,10 +2,10 @@
 ghost use Rattle.std.specs.Prelude.{◌≡◌, ◌<◌, length, slice_index_or};
 ghost use Rattle.saturation.specs.Rows.{chain, no_row};
 ghost use Rattle.saturation.specs.Chains.{last_in};
+ghost use Rattle.saturation.specs.Tables.{view, capacity};
 ghost use Rattle.saturation.specs.Buckets.{bucket_of};
 ghost use Rattle.saturation.specs.Sides.{source_of, target_of, inner_of, ending_of, through_of, node_of, chain_of, side_bucket, spot_of, spots_of, SpotsWithin, turned, settled_rows};
 
-use crate::buckets::bucket_of;
 use crate::row::{Chain, Row};
 use crate::table::Table;
 use standpoint::Statement;
@@ -231,15 +231,15 @@ impl<'a, G: Copy> Table<'a, G> {
     // The bucket of the k-th settled statement on a side.
     fn side_bucket(&self, side: Side, k: usize) -> usize
         requires { k < self.now.settled }
-        ensures { result ≡ side_bucket side self.now.rows.now k }
+        ensures { result ≡ side_bucket side (capacity (view self.now)) self.now.rows.now k }
     {
-        bucket_of(side.node(self.settled_statement(k)), self.rows.len())
+        self.bucket(side.node(self.settled_statement(k)))
     }
 
     // The last settled statement in a bucket of a side, or none. As with `last_in`, a head counts only where it names one.
     fn last_on(&self, side: Side, bucket: usize) -> Option<u32>
-        requires { bucket < length self.now.rows.now }
-        ensures { result ≡ last_in (side_bucket side self.now.rows.now) bucket self.now.settled }
+        requires { bucket < capacity (view self.now) }
+        ensures { result ≡ last_in (side_bucket side (capacity (view self.now)) self.now.rows.now) bucket self.now.settled }
     {
         let head = self.chain(side, bucket).head;
         let at = head as usize;
@@ -252,11 +252,11 @@ impl<'a, G: Copy> Table<'a, G> {
 
     // Where statements with this node on this side are found.
     pub(crate) fn spot(&self, side: Side, node: Statement) -> Spot
-        requires { 0 < length self.now.rows.now }
-        ensures value { result ≡ spot_of side self.now.rows.now self.now.settled node }
-        ensures within { result.bucket < length self.now.rows.now }
+        requires { 0 < capacity (view self.now) }
+        ensures value { result ≡ spot_of side (capacity (view self.now)) self.now.rows.now self.now.settled node }
+        ensures within { result.bucket < capacity (view self.now) }
     {
-        let bucket = bucket_of(node, self.rows.len());
+        let bucket = self.bucket(node);
         Spot {
             bucket,
             last: self.last_on(side, bucket),
@@ -265,9 +265,9 @@ impl<'a, G: Copy> Table<'a, G> {
 
     // Where a statement goes on each side.
     pub(crate) fn spots(&self, x: Statement) -> Spots
-        requires { 0 < length self.now.rows.now }
-        ensures value { result ≡ spots_of self.now.rows.now self.now.settled x }
-        ensures within { SpotsWithin result (length self.now.rows.now) }
+        requires { 0 < capacity (view self.now) }
+        ensures value { result ≡ spots_of (capacity (view self.now)) self.now.rows.now self.now.settled x }
+        ensures within { SpotsWithin result (capacity (view self.now)) }
     {
         Spots {
             source: self.spot(Side::Source, source_of(x)),

@@ -1,7 +1,7 @@
 // The table over lent memory.
 ghost use Rattle.std.specs.Prelude.{◌≤◌, length};
 ghost use Rattle.saturation.specs.Phases.{is_begun};
-ghost use Rattle.saturation.specs.Rows.{TurnsWithin, Unmarked, WinnersWithin};
+ghost use Rattle.saturation.specs.Rows.{rows_in, InPlace, TurnsWithin, Unlisted, WinnersWithin};
 ghost use Rattle.saturation.specs.Buckets.{Indexed};
 ghost use Rattle.saturation.specs.Sides.{Sided};
 
@@ -22,8 +22,9 @@ pub struct Table<'a, G> {
     ghost few: { len ≤ 16777215 },
     ghost settled_fit: { settled ≤ len },
     ghost turns: { TurnsWithin rows.now settled len },
-    ghost marks: { Unmarked rows.now len (is_begun phase) },
+    ghost in_place: { InPlace rows.now settled len },
+    ghost unlisted: { Unlisted rows.now len (is_begun phase) },
     ghost winners: { WinnersWithin rows.now len },
-    ghost index: { Indexed rows.now len },
-    ghost sides: { Sided rows.now settled },
+    ghost index: { Indexed (rows_in rows.now grades.now) rows.now len },
+    ghost sides: { Sided (rows_in rows.now grades.now) rows.now settled },
 }

@@ -1,7 +1,7 @@
 // One turn of a run.
 ghost use Rattle.std.specs.Prelude.{◌≡◌, ◌+◌, ◌<◌};
 ghost use Rattle.saturation.specs.Phases.{sizes_of};
-ghost use Rattle.saturation.specs.Tables.{view, Same, settled_row};
+ghost use Rattle.saturation.specs.Tables.{view, OpenAt, Same, settled_row};
 ghost use Rattle.saturation.specs.Turns.{Turned};
 
 use crate::rows::NoRow;
@@ -49,9 +49,9 @@ impl<'a, G: Copy> Table<'a, G> {
         self.sizes().map_or(0, |sizes| sizes.individuals)
     }
 
-    // Row i is settled in the next turn.
+    // Row i, which is unsettled, is settled in the next turn.
     fn settle_row(&mut self, i: usize)
-        requires { (i < self.old.len) × (self.old.settled < self.old.len) }
+        requires { (i < self.old.len) × (self.old.settled < self.old.len) × OpenAt (view self.old) i }
         ensures same { Same self.old self.new }
         ensures state { view self.new ≡ settled_row (view self.old) i }
     {

@@ -1,7 +1,8 @@
 // Walks back along a lane, from one settled place to the one before.
-ghost use Rattle.std.specs.Prelude.{◌≡◌, ◌<◌, length};
+ghost use Rattle.std.specs.Prelude.{◌≡◌, ◌<◌};
 ghost use Rattle.standpoint.specs.Lists.{Tells};
 ghost use Rattle.saturation.specs.Chains.{last_in};
+ghost use Rattle.saturation.specs.Tables.{view, capacity};
 ghost use Rattle.saturation.specs.Sides.{settled_at};
 ghost use Rattle.saturation.specs.Lanes.{Within, track, lane_bucket};
 
@@ -13,8 +14,8 @@ use standpoint::shape::NESTED_INCLUSION;
 impl<'a, G: Copy> Table<'a, G> {
     // Where a walk back along a lane starts: at the last settled place of its chain, if there is one.
     pub(crate) fn last_along(&self, lane: &Lane) -> Option<u32>
-        requires { 0 < length self.now.rows.now }
-        ensures { result ≡ last_in (track self.now.rows.now lane.now) (lane_bucket self.now.rows.now lane.now) self.now.settled }
+        requires { 0 < capacity (view self.now) }
+        ensures { result ≡ last_in (track (capacity (view self.now)) self.now.rows.now lane.now) (lane_bucket (capacity (view self.now)) lane.now) self.now.settled }
     {
         match *lane {
             Lane::Nowhere => None,
@@ -27,8 +28,8 @@ impl<'a, G: Copy> Table<'a, G> {
 
     // Where it goes on from place k.
     pub(crate) fn next_along(&self, lane: &Lane, k: usize) -> Option<u32>
-        requires { (k < self.now.settled) × (track self.now.rows.now lane.now k ≡ lane_bucket self.now.rows.now lane.now) }
-        ensures { result ≡ last_in (track self.now.rows.now lane.now) (lane_bucket self.now.rows.now lane.now) k }
+        requires { (k < self.now.settled) × (track (capacity (view self.now)) self.now.rows.now lane.now k ≡ lane_bucket (capacity (view self.now)) lane.now) }
+        ensures { result ≡ last_in (track (capacity (view self.now)) self.now.rows.now lane.now) (lane_bucket (capacity (view self.now)) lane.now) k }
     {
         match *lane {
             Lane::Nowhere | Lane::Alone(_) => None,

@@ -12,7 +12,10 @@ use Rattle.saturation.specs.declared.table.Table.{Table}
 use Rattle.saturation.specs.Phases.{is_begun}
 use Rattle.saturation.specs.Tables.{State, view, statement_at, turn_at}
 use Rattle.saturation.specs.Searching.{Premise, premises_in, Lists}
-use Rattle.settled_text.specs.Text.{statement_text, stand_text, stand_of, line_text, Written, Printed, RowsLine, RunLine}
+use Rattle.reasoner.proofs.Holding.{held}
+use Rattle.saturation.specs.Saturation.{stand_of}
+use Rattle.reasoner.proofs.Standing.{stands_so}
+use Rattle.settled_text.specs.Text.{statement_text, stand_text, line_text, Written, Printed, RowsLine, RunLine}
 
 -- a phase that is not idle is that of a run
 pub begun_else : (p : Phase) → (p ≡ Idle → ⊥) → is_begun p ≡ true
@@ -81,7 +84,9 @@ module _ {G : Type 0} (coded : G → ℕ) (t : Table G) (k : ℕ) where
   line_printed begun bytes line before after r written =
       let printed : (l : List (Statement × G)) → Reads (view t) l → Printed (is_begun t.phase) (line_text coded l (stand_of t) k) before after r =
       λ l is. rw (begun, line l is) written in
-      (λ d. printed _ (rows_read (view t) d), λ l lists. printed l (run_reads (view t) l lists))
+      let run : RunLine coded t k before after r =
+      λ a b l h. (stand_of t, stands_so a b t h, rw (line l (run_reads (view t) l (held h).lists)) written) in
+      (λ d. printed _ (rows_read (view t) d), run)
 
 -- what is written lies within the buffer
 pub written_within : (bytes before later : List ℕ) (r : Result ℕ Refusal) → Written bytes before later r → IfOk r (λ n. n ≤ length before)

@@ -5,12 +5,17 @@ use Rattle.standpoint.specs.declared.refusal.Refusal.{Refusal}
 use Rattle.standpoint.specs.declared.refusal.Refusal.TheVariants.{NotBegun, BufferTooShort}
 use Rattle.standpoint.specs.Refusals.{number_of}
 use Rattle.standpoint.specs.declared.statement.Statement.{Statement}
+use Rattle.standpoint.specs.Algebra.{Algebra}
+use Rattle.standpoint.specs.Derivations.{Base}
 use Rattle.runs.specs.declared.Stand.{Stand}
 use Rattle.runs.specs.declared.Stand.TheVariants.{Open, Ended, Full}
+use Rattle.runs.specs.Runs.{Settled, Stands}
 use Rattle.saturation.specs.declared.table.Table.{Table}
-use Rattle.saturation.specs.Phases.{is_begun, stands_full}
-use Rattle.saturation.specs.Tables.{view}
-use Rattle.saturation.specs.Searching.{premises_in, Lists}
+use Rattle.saturation.specs.Phases.{is_begun}
+use Rattle.saturation.specs.Tables.{view, capacity}
+use Rattle.saturation.specs.Searching.{premises_in}
+use Rattle.saturation.specs.Saturation.{stand_of}
+use Rattle.reasoner.specs.Models.{Holding}
 use Rattle.blockfile.specs.declared.fault.FaultReport.{FaultReport}
 
 -- the line of a stopped load
@@ -40,10 +45,6 @@ all_lines {G} coded settled stand = map (λ (o : Statement × G). statement_text
 abbrev pub line_text : {G : Type 0} → (G → ℕ) → List (Statement × G) → Stand → ℕ → List ℕ
 line_text coded settled stand k = slice_index_or (all_lines coded settled stand) k []
 
--- how a table stands
-abbrev pub stand_of : {G : Type 0} → Table G → Stand
-stand_of t = cond (stands_full t.phase) Full (cond (nat_le t.len t.settled) Ended Open)
-
 -- bytes are written to the front of a buffer, or it is too short and stays as it was
 abbrev pub Written : List ℕ → List ℕ → List ℕ → Result ℕ Refusal → Type 0
 Written bytes before after (Ok n) = (n ≡ length bytes) × (length bytes ≤ length before) × (after ≡ bytes ++ drop (length bytes) before)
@@ -59,7 +60,8 @@ abbrev pub RowsLine : {G : Type 0} → (G → ℕ) → Table G → ℕ → List 
 RowsLine {G} coded t k before after r =
     (d : G) → Printed (is_begun t.phase) (line_text coded (premises_in (view t) d (range_with_len 0 t.settled)) (stand_of t) k) before after r
 
--- line k of the list that a run settled, where the rows hold it
+-- line k of what the run settled that the reasoner holds, and of how that run stands
 abbrev pub RunLine : {G : Type 0} → (G → ℕ) → Table G → ℕ → List ℕ → List ℕ → Result ℕ Refusal → Type 0
 RunLine {G} coded t k before after r =
-    (settled : List (Statement × G)) → Lists (view t) settled → Printed (is_begun t.phase) (line_text coded settled (stand_of t) k) before after r
+    (a : Algebra G) (b : Base G) (l : Settled G) → Holding a b t l →
+    (stand : Stand) × Stands a b (capacity (view t)) l stand × Written (line_text coded l stand k) before after r

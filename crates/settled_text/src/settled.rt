@@ -1,6 +1,6 @@
 // The text of a reasoner: a line for each settled statement, and one for how it stands.
 ghost use Rattle.std.specs.Prelude.{◌≡◌, ◌≤◌, length, IfOk};
-ghost use Rattle.settled_text.specs.Text.{statement_text, stand_word, stand_text, stand_of, Written, RowsLine, RunLine};
+ghost use Rattle.settled_text.specs.Text.{statement_text, stand_word, stand_text, Written, RowsLine, RunLine};
 
 use crate::writing::{Line, copy_line, push_next_number, push_number};
 use blockfile::StoredKind;
@@ -26,7 +26,7 @@ pub fn settled_line<K: StoredKind>(
         return statement_line(statement, K::encode(grade), buffer);
     }
     if k == reasoner.settled {
-        return stand_line(stand_of(reasoner), k as u32, buffer);
+        return stand_line(reasoner.stand(), k as u32, buffer);
     }
     Ok(0)
 }
@@ -54,16 +54,6 @@ fn stand_line(stand: Stand, count: u32, buffer: &mut [u8]) -> Result<usize, Refu
     push_number(&mut line, count);
     line.push('\n');
     copy_line(&line, buffer)
-}
-
-// How the run stands, from the phase too: the rows alone do not tell that it stands full.
-fn stand_of<G: Copy>(reasoner: &Table<'_, G>) -> Stand
-    ensures { result ≡ stand_of reasoner.now }
-{
-    match reasoner.phase {
-        Phase::Full(_) => Stand::Full,
-        _ => reasoner.stand(),
-    }
 }
 
 fn word(stand: Stand) -> &'static str

@@ -5,7 +5,6 @@ pub mod TautologyList
 pub mod Conclusions
 pub mod Arities
 pub mod RuleFits
-pub mod Pairs
 pub mod Lists
 pub mod Soundness
 pub mod Derived

@@ -1,16 +1,17 @@
 -- There is a structure for all sizes.
 use Rattle.std.proofs.Common.{◌≡◌, ℕ, ◌≤◌, Bool, true, false, not, ◌&&◌, T, eqb, arith, eqb→eq}
 use Rattle.standpoint.specs.declared.sizes.Sizes.{Sizes}
+use Rattle.standpoint.specs.Claims.Claim.{told}
 use Rattle.standpoint.specs.Structures.{Structure}
 
 -- one thing, one precisification; every concept but bottom has the thing
 pub one_thing : (n : Sizes) → Structure n
 one_thing n = record {
-  thing = λ δ. eqb δ 0;
-  precisification = λ π. eqb π 0;
-  standpoint = λ s π. eqb π 0;
-  concept = λ π c δ. eqb δ 0 && not (eqb c 1);
-  role = λ π r δ ε. false;
+  thing = λ δ. told (eqb δ 0);
+  precisification = λ π. told (eqb π 0);
+  standpoint = λ s π. told (eqb π 0);
+  concept = λ π c δ. told (eqb δ 0 && not (eqb c 1));
+  role = λ π r δ ε. told false;
   some_thing = (0, tt);
   some_precisification = (0, tt);
   some_in_standpoint = λ s _. (0, tt);

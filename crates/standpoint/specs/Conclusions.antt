@@ -171,23 +171,3 @@ abbrev pub conclusion : ℕ → ℕ → Premises → Option Statement
 conclusion individuals rule (One p) = from_one individuals rule p
 conclusion individuals rule (Two p q) = from_two rule p q
 conclusion individuals rule (Three p q r) = from_three rule p q r
-
--- whether some third premise goes with the first, p, and the second, q
-abbrev pub goes_second : ℕ → Statement → Statement → Bool
-goes_second rule p q =
-    numbers p (λ a b c d e. numbers q (λ f g h i j.
-    cond (rule == 3) (same p (sharper a b) && same q (sharper a g))
-    (cond (rule == 14) (same p (existential_right a b c d) && same q (nested_inclusion f 0 a d j))
-    (cond (rule == 15) (same p (existential_right a b c d) && same q (existential_right a d h i))
-    (cond (rule == 17) (same p (nested_inclusion a b c d e) && same q (nested_inclusion a b c d j))
-    false)))))
-
--- whether some second premise goes with the first, p, and the third, q
-abbrev pub goes_third : ℕ → Statement → Statement → Bool
-goes_third rule p q =
-    numbers p (λ a b c d e. numbers q (λ f g h i j.
-    cond (rule == 3) (same p (sharper a b) && same q (intersection_sharper b g h))
-    (cond (rule == 14) (same p (existential_right a b c d) && same q (role_inclusion a c h))
-    (cond (rule == 15) (same p (existential_right a b c d) && same q (role_chain a c h i))
-    (cond (rule == 17) (same p (nested_inclusion a b c d e) && same q (conjunction_left c e h i))
-    false)))))

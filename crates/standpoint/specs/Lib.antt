@@ -7,6 +7,7 @@ pub mod Statements
 pub mod Rules
 pub mod RuleNumbers
 pub mod Tautologies
+pub mod Claims
 pub mod Structures
 pub mod Derivations
 pub mod Steps

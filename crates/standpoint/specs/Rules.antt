@@ -4,8 +4,6 @@ use Rattle.standpoint.specs.declared.statement.Statement.{Statement}
 use Rattle.standpoint.specs.declared.sizes.Sizes.{Sizes}
 use Rattle.standpoint.specs.declared.premises.Premises.{Premises}
 use Rattle.standpoint.specs.declared.premises.Premises.TheVariants.{One, Two, Three}
-use Rattle.standpoint.specs.declared.premises.Beside.{Beside}
-use Rattle.standpoint.specs.declared.premises.Beside.TheVariants.{Second, Third}
 use Rattle.standpoint.specs.Lists.{All}
 use Rattle.standpoint.specs.Sizes.{InRange}
 use Rattle.standpoint.specs.Statements.{Fits, Individual, statement, sharper, intersection_sharper, nested_inclusion, possible_inclusion, existential_right, existential_left, conjunction_left, role_inclusion, role_chain, contradiction}
@@ -100,8 +98,3 @@ pub record HasArity (rule count : ℕ) : Type 0 where
 abbrev pub FitsAs : ℕ → List Statement → Option Statement → Type 0
 FitsAs individuals premises None = Unit {0}
 FitsAs individuals premises (Some x) = (n : Sizes) → n.individuals ≡ individuals → InRange n → All (Fits n) premises → Fits n x
-
--- p as first premise and q at its place have a conclusion with some other premise
-abbrev pub GoesWith : ℕ → ℕ → Statement → Beside → Statement → Type 0
-GoesWith individuals rule p Second q = (r x : Statement) × Rule individuals rule (p ∷ q ∷ r ∷ []) x
-GoesWith individuals rule p Third q = (r x : Statement) × Rule individuals rule (p ∷ r ∷ q ∷ []) x

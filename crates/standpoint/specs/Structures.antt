@@ -1,42 +1,43 @@
 -- What statements mean: structures, and which statements a structure meets.
-use Rattle.std.specs.Prelude.{◌≡◌, ℕ, ◌<◌, Bool, T}
+use Rattle.std.specs.Prelude.{◌≡◌, ℕ, ◌<◌}
 use Rattle.standpoint.specs.declared.statement.Statement.{Statement}
 use Rattle.standpoint.specs.declared.sizes.Sizes.{Sizes}
+use Rattle.standpoint.specs.Claims.{Claim, Holds}
 use Rattle.standpoint.specs.Statements.{Individual, sharper, intersection_sharper, nested_inclusion, possible_inclusion, existential_right, existential_left, conjunction_left, role_inclusion, role_chain}
 
--- A set is its membership test. Things and precisifications are numbers, perhaps infinitely many.
+-- A set is what its claim of each number says. Things and precisifications are numbers, perhaps infinitely many.
 pub record Structure (n : Sizes) : Type 0 where
-  pub thing : ℕ → Bool
-  pub precisification : ℕ → Bool
+  pub thing : ℕ → Claim
+  pub precisification : ℕ → Claim
   -- standpoint s π; concept π c δ; role π r δ ε, from δ to ε
-  pub standpoint : ℕ → ℕ → Bool
-  pub concept : ℕ → ℕ → ℕ → Bool
-  pub role : ℕ → ℕ → ℕ → ℕ → Bool
-  pub some_thing : (δ : ℕ) × T (thing δ)
-  pub some_precisification : (π : ℕ) × T (precisification π)
-  pub some_in_standpoint : (s : ℕ) → s < n.standpoints → (π : ℕ) × T (standpoint s π)
-  pub standpoint_within : (s π : ℕ) → T (standpoint s π) → T (precisification π)
-  pub standpoint_of_all : (π : ℕ) → T (precisification π) → T (standpoint 0 π)
-  pub concept_within : (π c δ : ℕ) → T (concept π c δ) → T (thing δ)
-  pub role_within : (π r δ ε : ℕ) → T (role π r δ ε) → T (thing δ) × T (thing ε)
-  pub top_all : (π δ : ℕ) → T (precisification π) → T (thing δ) → T (concept π 0 δ)
-  pub bottom_none : (π δ : ℕ) → T (concept π 1 δ) → ⊥
+  pub standpoint : ℕ → ℕ → Claim
+  pub concept : ℕ → ℕ → ℕ → Claim
+  pub role : ℕ → ℕ → ℕ → ℕ → Claim
+  pub some_thing : (δ : ℕ) × Holds (thing δ)
+  pub some_precisification : (π : ℕ) × Holds (precisification π)
+  pub some_in_standpoint : (s : ℕ) → s < n.standpoints → (π : ℕ) × Holds (standpoint s π)
+  pub standpoint_within : (s π : ℕ) → Holds (standpoint s π) → Holds (precisification π)
+  pub standpoint_of_all : (π : ℕ) → Holds (precisification π) → Holds (standpoint 0 π)
+  pub concept_within : (π c δ : ℕ) → Holds (concept π c δ) → Holds (thing δ)
+  pub role_within : (π r δ ε : ℕ) → Holds (role π r δ ε) → Holds (thing δ) × Holds (thing ε)
+  pub top_all : (π δ : ℕ) → Holds (precisification π) → Holds (thing δ) → Holds (concept π 0 δ)
+  pub bottom_none : (π δ : ℕ) → Holds (concept π 1 δ) → ⊥
   -- exactly one thing, the same in every precisification
   pub individual_thing : (a : ℕ) → Individual n.individuals a →
-      (δ : ℕ) × ((π : ℕ) → T (precisification π) → T (concept π a δ) × ((ε : ℕ) → T (concept π a ε) → ε ≡ δ))
+      (δ : ℕ) × ((π : ℕ) → Holds (precisification π) → Holds (concept π a δ) × ((ε : ℕ) → Holds (concept π a ε) → ε ≡ δ))
 
 module _ {n : Sizes} (M : Structure n) where
   -- the precisification π belongs to the standpoint s
   abbrev pub In : ℕ → ℕ → Type 0
-  In s π = T (M.standpoint s π)
+  In s π = Holds (M.standpoint s π)
 
   -- in π, δ is c
   abbrev pub Is : ℕ → ℕ → ℕ → Type 0
-  Is π c δ = T (M.concept π c δ)
+  Is π c δ = Holds (M.concept π c δ)
 
   -- in π, δ has an r to ε
   abbrev pub Has : ℕ → ℕ → ℕ → ℕ → Type 0
-  Has π r δ ε = T (M.role π r δ ε)
+  Has π r δ ε = Holds (M.role π r δ ε)
 
   -- the structure meets a statement: what the statement says holds there
   pub data Meets : Statement → Type 0 where

@@ -12,7 +12,7 @@ use crate::statement::{Sort, Sorts, Statement};
 
 impl Sorts {
     // The sorts of a shape's numbers, or none if there is no such shape.
-    pub fn of(shape: u8) -> Option<Sorts>
+    fn of(shape: u8) -> Option<Sorts>
         ensures { result ≡ sorts_of shape }
     {
         use Sort::{Concept, Role, Standpoint, Unused};

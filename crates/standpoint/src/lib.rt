@@ -2,13 +2,13 @@
 #![tactic(auto)]
 
 pub use kinds::{Kind, Letter, LetterGrade, Odds, OddsGrade, Surcharge, Tally, TallyGrade};
-pub use premises::{Beside, Premises};
+pub use premises::Premises;
 pub use refusal::Refusal;
-pub use rules::{Rule, UnknownRule, arity, conclude, may_meet};
+pub use rules::{Rule, UnknownRule};
 pub use sizes::Sizes;
 pub use statement::{Sort, Sorts, Statement};
 pub use step::{ACCEPTED, Step, TAUTOLOGY};
-pub use tautologies::{is_tautology, tautology, tautology_count};
+pub use tautologies::{tautology, tautology_count};
 pub use verdict::check;
 
 mod fits;

@@ -8,10 +8,3 @@ pub enum Premises {
     Two(Statement, Statement),
     Three(Statement, Statement, Statement),
 }
-
-// Where one of three premises stands, beside the first.
-#[derive(Clone, Copy)]
-pub enum Beside {
-    Second,
-    Third,
-}

@@ -2,7 +2,7 @@
 ghost use Rattle.std.specs.Prelude.{◌≡◌};
 ghost use Rattle.standpoint.specs.Refusals.{number_of};
 
-// Every refusal of every call; a refusal leaves all as it was.
+// Every refusal of every call. It leaves all as it was, but where a load stops at a record: those before it remain accepted.
 #[derive(Clone, Copy)]
 pub enum Refusal {
     // No begin was performed yet.

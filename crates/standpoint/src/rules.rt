@@ -2,18 +2,16 @@
 ghost use Rattle.std.specs.Prelude.{◌≡◌};
 ghost use Rattle.standpoint.specs.Conclusions.{conclusion};
 ghost use Rattle.standpoint.specs.RuleNumbers.{number_of_rule};
-ghost use Rattle.standpoint.specs.Rules.{Concluded, FitsAs, HasArity, listed};
+ghost use Rattle.standpoint.specs.Rules.{Concluded, FitsAs, listed};
 
 use crate::premises::Premises;
 use crate::statement::Statement;
 pub use named::{Rule, UnknownRule};
-pub use pairs::may_meet;
 
 mod bottom;
 mod existentials;
 mod inclusions;
 mod named;
-mod pairs;
 mod roles;
 mod sharpenings;
 
@@ -64,19 +62,9 @@ impl Rule {
     }
 }
 
-// By number, as step lists name rules: every number is answered, whether a rule has it or not.
-
-// How many premises the rule of a number has, 0 if no rule has it.
-pub fn arity(rule: u8) -> u8
-    ensures { HasArity rule result }
-{
-    Rule::try_from(rule).map_or(0, Rule::arity)
-}
-
-// The conclusion of the rule of a number, or none; no rule has a number below 1 or above 23.
-pub fn conclude(individuals: u16, rule: u8, premises: Premises) -> Option<Statement>
-    ensures conclusion { Concluded individuals rule (listed premises) result }
-    ensures fits { FitsAs individuals (listed premises) result }
+// The same by number, as step lists name rules; no rule has a number below 1 or above 23.
+pub(crate) fn conclude(individuals: u16, rule: u8, premises: Premises) -> Option<Statement>
+    ensures { Concluded individuals rule (listed premises) result }
 {
     let rule = Rule::try_from(rule).ok()?;
     rule.conclude(individuals, premises)

@@ -10,7 +10,7 @@ use crate::sizes::Sizes;
 use crate::statement::Statement;
 
 // Whether a statement is a tautology.
-pub fn is_tautology(sizes: &Sizes, x: Statement) -> bool
+pub(crate) fn is_tautology(sizes: &Sizes, x: Statement) -> bool
     ensures { Tells result (Tautology sizes.now x) }
 {
     on_standpoints(sizes, x) || on_concepts(sizes, x) || on_roles(sizes, x)

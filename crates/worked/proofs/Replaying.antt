@@ -7,7 +7,8 @@ use Rattle.saturation.specs.Tables.{capacity}
 use Rattle.replay.specs.declared.call.Call.{Call}
 use Rattle.replay.specs.Pasts.{Outcome}
 use Rattle.replay.specs.Performing.{Performed}
-use Rattle.replay.specs.Replays.{Replayed, rows_in}
+use Rattle.saturation.specs.Rows.{rows_in}
+use Rattle.replay.specs.Replays.{Replayed}
 use Rattle.worked.specs.Cases.{ComeTo}
 
 pub replayed : {G : Type 0} (a : Algebra G) (rows rows_left : List Row) (grades grades_left : List G) (calls : List (Call G)) (outcomes : List (Outcome G)) (steps left : List (Step G)) (n : ℕ) →

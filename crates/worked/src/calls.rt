@@ -5,7 +5,7 @@ ghost use Rattle.std.proofs.Common.{lit≤};
 ghost use Rattle.standpoint.specs.declared.kinds.grades.LetterGrade.TheVariants.{D};
 ghost use Rattle.standpoint.specs.Grades.{tally_grade, odds_grade};
 ghost use Rattle.replay.specs.Pasts.{Outcome};
-ghost use Rattle.replay.specs.Replays.{rows_in};
+ghost use Rattle.saturation.specs.Rows.{rows_in};
 ghost use Rattle.worked.specs.Lists.{bare_outcomes, clash_outcomes, detour_outcomes};
 ghost use Rattle.worked.specs.Cases.{ComeTo};
 

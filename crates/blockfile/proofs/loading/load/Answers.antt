@@ -4,6 +4,7 @@ use Rattle.reasoner.specs.Calls.{Begun}
 use Rattle.blockfile.specs.Layout.{sizes_in}
 use Rattle.blockfile.specs.Loads.{AddedBefore, reads_none, none}
 use Rattle.blockfile.proofs.Accepting.{over_then, few_records, before_then, file_stopped, accepts_all, stopped_accepts}
+use Rattle.blockfile.proofs.Leaving.{loaded_leaves}
 use Rattle.blockfile.proofs.loading.load.Goals as goal
 
 pub loop-number-init : goal.loop-number-init
@@ -51,3 +52,10 @@ returns-clause-answer g c =
 pub returns-clause-all : goal.returns-clause-all
 returns-clause-all g c =
     accepts_all g.K.StoredKind.decoded c.args.file.now (g.K.Kind.algebra c.args.kind.now) g.K.StoredKind.KIND_BYTE c.args.reasoner.now c.loop-number.reasoner (Ok tt) (returns-clause-answer g c)
+
+pub returns-in_err-load_block-clause-leaves : goal.returns-in_err-load_block-clause-leaves
+returns-in_err-load_block-clause-leaves g c =
+    loaded_leaves g.K.StoredKind.decoded c.args.file.now (g.K.Kind.algebra c.args.kind.now) g.K.StoredKind.KIND_BYTE c.args.reasoner.now c.load_block.new.reasoner c.from_residual-in_err-load_block.result (returns-in_err-load_block-clause-answer g c)
+
+pub returns-clause-leaves : goal.returns-clause-leaves
+returns-clause-leaves g c = loaded_leaves g.K.StoredKind.decoded c.args.file.now (g.K.Kind.algebra c.args.kind.now) g.K.StoredKind.KIND_BYTE c.args.reasoner.now c.loop-number.reasoner (Ok tt) (returns-clause-answer g c)

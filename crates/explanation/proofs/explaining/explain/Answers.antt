@@ -1,7 +1,7 @@
 use Rattle.std.proofs.Common.{Err, refl, ap, ◌∙◌, rules}
 use Rattle.std.proofs.lemmas.Result.{err_from_is_err_and}
 use Rattle.reasoner.proofs.Holding.{held}
-use Rattle.explanation.proofs.Answering.{refuses_unfound, explains, rows_as_before, unmarked}
+use Rattle.explanation.proofs.Answering.{refuses_unfound, explains, rows_as_before, unlisted}
 use Rattle.explanation.proofs.Meaning.{means}
 use Rattle.explanation.proofs.explaining.explain.Goals as goal
 
@@ -11,9 +11,9 @@ returns-in_err-t g c =
     let answer = refuses_unfound c.args.reasoner.now c.args.statement _ _ c.from_residual.result c.in_err-t.field-0.0 (p.1 ∙ ap Err p.2) (search rules) c.in_err-t.ensures in
     record { memory = (refl, refl); unchanged = (refl, refl); answer = answer; meaning = λ a laws b l h. means a laws b l c.args.reasoner.now (held h) c.args.statement _ _ c.from_residual.result answer }
 
-pub invariant_of-reasoner-2-clause-marks : goal.invariant_of-reasoner-2-clause-marks
-invariant_of-reasoner-2-clause-marks g c =
-    unmarked c.args.reasoner.now c.write_needed-written.new.reasoner c.clear.new.reasoner c.in_ok-t.ensures.0.begun c.write_needed-written.ensures.state c.clear.ensures.state c.clear.ensures.clean
+pub invariant_of-reasoner-2-clause-unlisted : goal.invariant_of-reasoner-2-clause-unlisted
+invariant_of-reasoner-2-clause-unlisted g c =
+    unlisted c.args.reasoner.now c.write_needed-written.new.reasoner c.clear.new.reasoner c.in_ok-t.ensures.0.begun c.write_needed-written.ensures.state c.clear.ensures.state c.clear.ensures.clean
 
 pub returns : goal.returns
 returns g c =

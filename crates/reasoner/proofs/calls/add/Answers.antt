@@ -6,7 +6,9 @@ use Rattle.saturation.specs.Phases.{is_begun, is_sealed, sizes_of}
 use Rattle.saturation.specs.Tables.{view}
 use Rattle.saturation.specs.Offering.{Taken}
 use Rattle.reasoner.specs.Calls.{Adds, before_begin, after_settle, misfit, individual, no_row}
-use Rattle.reasoner.proofs.Adding.{accepted_more, taken_all}
+use Rattle.saturation.specs.Rows.{kept}
+use Rattle.saturation.specs.Memory.{Offered}
+use Rattle.reasoner.proofs.Adding.{accepted_more, taken_all, adds_row}
 use Rattle.reasoner.proofs.calls.add.Goals as goal
 
 pub returns-in-Idle-clause-answer : goal.returns-in-Idle-clause-answer
@@ -34,6 +36,7 @@ returns-clause-answer g c =
           let taken = subst (Taken al (view s) (view c.offer.new.self) x c.args.grade) c.if-is_err.ensures.negation c.offer.ensures.state in
           let fits = subst (λ (n : Sizes). Fits n x) (sym (ap sizes_of c.in-Taking.is) ∙ ap sizes_of h.0) c.if-not-fits.ensures in
           (c.offer.ensures.same.2 ∙ h.0, h.1, accepted_more al b x c.args.grade (view s) (view c.offer.new.self) h.2 (s.settled_fit, s.turns) fits taken c.offer.ensures.keeps),
+      adds_row al x c.args.grade s c.offer.new.self c.offer.ensures.same.2 (subst (Offered al (view s) (view c.offer.new.self) x c.args.grade (kept 0 0 0 0)) c.if-is_err.ensures.negation c.offer.ensures.rows) c.offer.ensures.state.grown,
     )
 
 pub returns-then-is_err-clause-answer : goal.returns-then-is_err-clause-answer

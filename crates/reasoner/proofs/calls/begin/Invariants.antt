@@ -1,5 +1,5 @@
-use Rattle.std.proofs.Common.{◌≡◌}
-use Rattle.saturation.specs.Tables.{view, capacity, Same}
+use Rattle.saturation.specs.Tables.{view, Same}
+use Rattle.saturation.specs.Offering.{Grown}
 use Rattle.reasoner.specs.Filling.{Filled}
 use Rattle.reasoner.proofs.calls.begin.Given as goal
 
@@ -7,5 +7,5 @@ use Rattle.reasoner.proofs.calls.begin.Given as goal
 abbrev pub invariant-loop-k : goal.invariant-loop-k
 invariant-loop-k g l =
     Same l.initial.reasoner l.reasoner
-    × (capacity (view l.reasoner) ≡ capacity (view l.initial.reasoner))
+    × Grown (view l.initial.reasoner) (view l.reasoner)
     × Filled (g.K.Kind.algebra l.kind) l.sizes (view l.reasoner) l.k

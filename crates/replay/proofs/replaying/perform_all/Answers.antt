@@ -2,7 +2,7 @@ use Rattle.std.proofs.Common.{◌≡◌, ℕ, ◌+◌, ◌<◌, ◌≤◌, lengt
 use Rattle.std.proofs.lemmas.List.{get_or_default}
 use Rattle.replay.specs.declared.call.Call.TheVariants.{Settle}
 use Rattle.replay.specs.Performing.{Performed, none}
-use Rattle.replay.proofs.Performed.{steps_fit, next_performed}
+use Rattle.replay.proofs.Performed.{leaves_behind, next_performed}
 use Rattle.replay.proofs.replaying.perform_all.Goals as goal
 
 pub loop-i-init : goal.loop-i-init
@@ -12,8 +12,11 @@ pub overflow_add-written : goal.overflow_add-written
 overflow_add-written g c =
     let w = c.loop-i.written in
     let steps = c.loop-i.steps in
-    let few = steps_fit (g.K.Kind.algebra c.args.kind.now) c.index-calls-i.result c.perform_behind-outcome.result c.loop-i.reasoner c.perform_behind-outcome.new.reasoner (drop w steps) (drop w c.perform_behind-outcome.new.steps) c.perform_behind-outcome.ensures.done in
     let left = length-drop w steps in
+    let right = length-drop w c.perform_behind-outcome.new.steps in
+    let long = c.perform_behind-outcome.auto.steps in
+    let made = leaves_behind (g.K.Kind.algebra c.args.kind.now) c.index-calls-i.result c.perform_behind-outcome.result c.loop-i.reasoner c.perform_behind-outcome.new.reasoner (drop w steps) (drop w c.perform_behind-outcome.new.steps) (omega arith) c.perform_behind-outcome.ensures.done in
+    let few = made.0 in
     let within = c.loop-i.invariant.2 in
     let count = c.steps_of-written.ensures in
     let sum : w + c.steps_of-written.result ≤ length steps = omega arith in

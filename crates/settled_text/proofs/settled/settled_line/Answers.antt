@@ -18,7 +18,7 @@ returns-then-k-reasoner g c =
     let coded = g.K.StoredKind.coded in
     let t = c.args.reasoner.now in
     let k = c.args.k in
-    let line = line_last coded t k c.stand_of.result c.if-k-reasoner.true c.stand_of.ensures in
+    let line = line_last coded t k c.stand.result c.if-k-reasoner.true c.stand.ensures in
     let both = line_printed coded t k (begun_else t.phase c.in_default.not-Idle) _ line c.args.buffer.now _ c.stand_line.result c.stand_line.ensures in
     record { rows = both.0; run = both.1; within = written_within _ c.args.buffer.now _ c.stand_line.result c.stand_line.ensures }
 

@@ -1,7 +1,7 @@
 use Rattle.std.proofs.Common.{length, ap, arith}
 use Rattle.standpoint.specs.Grades.{tally}
 use Rattle.standpoint.specs.GradeLaws.{tally_laws}
-use Rattle.replay.specs.Replays.{rows_in}
+use Rattle.saturation.specs.Rows.{rows_in}
 use Rattle.worked.specs.Lists.{bare_outcomes}
 use Rattle.worked.proofs.Bare.{bare_on_rows}
 use Rattle.worked.proofs.BareCase.{bare_case}

@@ -1,60 +1,31 @@
-use Rattle.std.proofs.Common.{◌≡◌, ℕ, refl, ◌∙◌, subst, arith}
-use Rattle.saturation.specs.Phases.{sizes_of}
-use Rattle.saturation.specs.declared.phase.Phase.{Phase}
-use Rattle.saturation.specs.declared.turn.Turn.TheVariants as turn
+use Rattle.std.proofs.Common.{refl, sym, ap, ◌∙◌, arith}
+use borrow.Author.Tests.{both_ways}
+use Rattle.saturation.specs.Phases.{stands_full, phase_of}
 use Rattle.saturation.specs.Tables.{view}
-use Rattle.saturation.specs.Saturation.{GoesOn}
-use Rattle.saturation.proofs.Sameness.{same_then}
-use Rattle.saturation.proofs.Lasting.{SoFar, fits_capacity, so_far_none, so_far_more, so_far_ended, so_far_full, so_far_done}
+use Rattle.saturation.specs.Saturation.SettledRows.{stood_full}
+use Rattle.saturation.proofs.Sealing.{not_standing, phase_on, went_so}
 use Rattle.saturation.proofs.table.Table.settle.Goals as goal
 
-pub loop-k-init : goal.loop-k-init
-loop-k-init g c = ((refl, refl, refl), refl, so_far_none (g.K.Kind.algebra c.args.kind.now) (sizes_of c.args.self.now.phase).individuals (view c.args.self.now))
+pub returns-in-Full-clause-answer : goal.returns-in-Full-clause-answer
+returns-in-Full-clause-answer g c =
+    let full = ap stands_full c.in-Full.is in
+    (c.in_ok-sizes.ensures.0, omega arith, stood_full full refl refl, λ free. absurd (both_ways _ free full))
 
-pub returns-in-Nothing-clause-run : goal.returns-in-Nothing-clause-run
-returns-in-Nothing-clause-run g c =
-    let al = g.K.Kind.algebra c.args.kind.now in
+pub returns-in-Full-stand-clause-answer : goal.returns-in-Full-stand-clause-answer
+returns-in-Full-stand-clause-answer g c =
     let s = c.args.self.now in
-    let v : ℕ = (sizes_of s.phase).individuals in
-    let t = c.loop-k.self in
-    let inv = c.loop-k.invariant in
-    let fits = fits_capacity (view t) t.rows_fit t.grades_fit t.few in
-    let u = c.go_on.new.self in
-    let on = subst (λ (p : Phase). GoesOn al (sizes_of p).individuals (view t) (view u) turn.Nothing) inv.0.2 c.in-Nothing.ensures.run in
-    so_far_ended al v (view s) (view t) (view u) c.loop-k.k inv.2 inv.1 fits c.args.n c.loop-k-test.true on c.go_on.ensures.long (fits_capacity (view u) u.rows_fit u.grades_fit u.few)
+    let turns = c.turns-count.ensures in
+    let r = c.turns-count.result in
+    let sizes = c.in_ok-sizes.sizes in
+    went_so (g.K.Kind.algebra c.args.kind.now) c.args.n r s _ (view c.turns-count.new.self) sizes c.in_ok-sizes.ensures.1 c.in_ok-sizes.ensures.0 (not_standing s.phase c.in_default.not-Full)
+    refl (ap (phase_of sizes) (sym c.in-Full-stand.is)) turns.within turns.rows turns.run
 
-pub returns-in-Overflowed-clause-run : goal.returns-in-Overflowed-clause-run
-returns-in-Overflowed-clause-run g c =
-    let al = g.K.Kind.algebra c.args.kind.now in
+pub returns-in_default-stand-clause-answer : goal.returns-in_default-stand-clause-answer
+returns-in_default-stand-clause-answer g c =
     let s = c.args.self.now in
-    let v : ℕ = (sizes_of s.phase).individuals in
-    let t = c.loop-k.self in
-    let inv = c.loop-k.invariant in
-    let fits = fits_capacity (view t) t.rows_fit t.grades_fit t.few in
-    let u = c.go_on.new.self in
-    let on = subst (λ (p : Phase). GoesOn al (sizes_of p).individuals (view t) (view u) turn.Overflowed) inv.0.2 c.in-Overflowed.ensures.run in
-    so_far_full al v (view s) (view t) (view u) c.loop-k.k inv.2 inv.1 fits c.args.n c.loop-k-test.true on c.go_on.ensures.long
-
-pub loop-k-preserved : goal.loop-k-preserved
-loop-k-preserved g c =
-    let al = g.K.Kind.algebra c.args.kind.now in
-    let s = c.args.self.now in
-    let v : ℕ = (sizes_of s.phase).individuals in
-    let t = c.loop-k.self in
-    let inv = c.loop-k.invariant in
-    let fits = fits_capacity (view t) t.rows_fit t.grades_fit t.few in
-    let u = c.go_on.new.self in
-    let on = subst (λ (p : Phase). GoesOn al (sizes_of p).individuals (view t) (view u) turn.Settled) inv.0.2 c.in-Settled.ensures.run in
-    (same_then inv.0 c.go_on.ensures.same, c.go_on.ensures.long ∙ inv.1, so_far_more al v (view s) (view t) (view u) c.loop-k.k inv.2 inv.1 fits on)
-
-pub returns-clause-run : goal.returns-clause-run
-returns-clause-run g c =
-    let al = g.K.Kind.algebra c.args.kind.now in
-    let s = c.args.self.now in
-    let v : ℕ = (sizes_of s.phase).individuals in
-    let t = c.loop-k.self in
-    let inv = c.loop-k.invariant in
-    let fits = fits_capacity (view t) t.rows_fit t.grades_fit t.few in
-    let all : c.loop-k.k ≡ c.args.n = omega arith in
-    let far = subst (λ (k : ℕ). SoFar al v (view s) (view t) k) all inv.2 in
-    so_far_done al v (view s) (view t) c.args.n c.stand.result far inv.1 fits (t.settled_fit, t.turns) t.grades_fit c.stand.ensures
+    let u = c.turns-count.new.self in
+    let turns = c.turns-count.ensures in
+    let r = c.turns-count.result in
+    let sizes = c.in_ok-sizes.sizes in
+    went_so (g.K.Kind.algebra c.args.kind.now) c.args.n r s u (view u) sizes c.in_ok-sizes.ensures.1 c.in_ok-sizes.ensures.0 (not_standing s.phase c.in_default.not-Full)
+    refl (turns.same.2 ∙ phase_on sizes r.1 c.in_default-stand.not-Full) turns.within turns.rows turns.run
