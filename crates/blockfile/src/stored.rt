@@ -11,6 +11,7 @@ use standpoint::{
 
 // A kind with a byte that names it and a code for each grade.
 pub trait StoredKind: Kind {
+    // The kind byte of every block.
     const KIND_BYTE: u8;
 
     ghost KIND_BYTE: { ℕ };
@@ -18,13 +19,6 @@ pub trait StoredKind: Kind {
     ghost coded: { Self.Grade → ℕ };
 
     ghost decoded: { ℕ → Option Self.Grade };
-
-    // The kind byte of every block.
-    fn file_byte() -> u8
-        ensures { result ≡ KIND_BYTE }
-    {
-        Self::KIND_BYTE
-    }
 
     // The code of a grade.
     fn encode(grade: Self::Grade) -> u32
