@@ -6,7 +6,8 @@ use Rattle.saturation.specs.declared.table.Table.{Table}
 use Rattle.saturation.specs.Tables.{State, view}
 use Rattle.saturation.specs.Memory.{Leaves}
 use Rattle.saturation.proofs.Leaving.{leaves_refl, leaves_trans, offered_more}
-use Rattle.reasoner.specs.Calls.{Unchanged, AddsRow}
+use Rattle.reasoner.specs.Calls.{AddsRow}
+use Rattle.reasoner.proofs.Leaving.{unchanged_leaves}
 use Rattle.blockfile.specs.declared.fault.BlockFault.TheVariants.{Sum, Layout, Begin, InRecord}
 use Rattle.blockfile.specs.declared.fault.LoadFault.{LoadFault}
 use Rattle.blockfile.specs.declared.fault.LoadFault.TheVariants.{Length, InBlock}
@@ -14,9 +15,6 @@ use Rattle.blockfile.specs.Loads.{Added, none, one_more, StoppedAt, Loaded}
 use Rattle.blockfile.proofs.Accepting.{refused_leaves}
 
 module _ {G : Type 0} where
-  unchanged_leaves : (s t : Table G) → Unchanged s t → Leaves (view s) (view t)
-  unchanged_leaves s t same = subst (Leaves (view s)) (sym same.0) (leaves_refl (view s))
-
   more_rows : (a : Algebra G) (x : Statement) (g : G) (s t : Table G) → AddsRow a x g s t → s.len ≤ t.len
   more_rows a x g s t now = offered_more a (view s) (view t) x g _ _ now.row
 

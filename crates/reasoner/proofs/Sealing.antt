@@ -13,6 +13,7 @@ use Rattle.saturation.specs.declared.table.Table.{Table}
 use Rattle.saturation.specs.Phases.{is_begun, sizes_of, stands_full, phase_of}
 use Rattle.saturation.specs.Tables.{view, capacity}
 use Rattle.saturation.proofs.Leaving.{leaves_capacity}
+use Rattle.saturation.proofs.Sealing.{settled_rows}
 use Rattle.saturation.specs.Saturation.{Holds, HoldsFull, HoldsAs, Settles, SettledRows, TableSettles}
 use Rattle.saturation.specs.Saturation.SettledRows.{stood_full, went_on}
 use Rattle.reasoner.specs.Models.{stopped, StandsFor}
@@ -62,9 +63,5 @@ settles_as_table al n s t (Ok r) h = settled_so al n s t r h.2 h.4 h.0 h.1
 settles_as_table al n s t (Err e) h = ((h.0, h.1), h.2, h.3)
 
 pub settles_long : {G : Type 0} (al : Algebra G) (n : ℕ) (s t : Table G) (r : Result (ℕ × Stand) Refusal) → TableSettles al n s t r → capacity (view t) ≡ capacity (view s)
-settles_long al n s t (Ok r) h = rows_long s t r.0 r.1 h.2
-  where
-    rows_long : {G : Type 0} (s t : Table G) (count : ℕ) (stand : Stand) → SettledRows s t count stand → capacity (view t) ≡ capacity (view s)
-    rows_long s t _ _ (stood_full full same phase) = ap capacity same
-    rows_long s t _ _ (went_on free phase rows) = leaves_capacity rows.leaves
+settles_long al n s t (Ok r) h = leaves_capacity (settled_rows s t r.0 r.1 h.2).leaves
 settles_long al n s t (Err e) h = ap capacity h.0

@@ -24,7 +24,7 @@ use Rattle.replay.specs.declared.call.Call.TheVariants.{Begin, Add, Settle, Ask,
 use Rattle.replay.specs.declared.call.Done.TheVariants.{Began, Added, Settled, Said, Explained}
 use Rattle.replay.specs.Pasts.{Outcome, Past, after}
 use Rattle.replay.specs.Performing.{as_outcome, Performs}
-use Rattle.replay.proofs.Kept.{unchanged_keep, adds_keep, settles_keep}
+use Rattle.reasoner.proofs.Leaving.{unchanged_keeps, add_keeps, settle_keeps}
 
 -- nothing was begun yet, or the reasoner holds a run over what the past accepted
 pub data Tied {G : Type 0} (a : Algebra G) (p : Past G) (t : Table G) : Type 0 where
@@ -52,12 +52,12 @@ module _ {G : Type 0} (a : Algebra G) where
   still {s = s} {t} (not_yet none unsettled asleep) same = record {
     tied = not_yet none unsettled (ap is_begun same.1 ∙ asleep);
     begins = omega arith;
-    keeps = λ e. unchanged_keep s t same;
+    keeps = λ e. unchanged_keeps s t same;
   }
   still {s = s} {t} (begun l some holding count) same = record {
     tied = begun l some (unchanged_holding same holding) count;
     begins = omega arith;
-    keeps = λ e. unchanged_keep s t same;
+    keeps = λ e. unchanged_keeps s t same;
   }
 
   begin_on : {p : Past G} {s t : Table G} (old : Tied a p s) (n : Sizes) (r : Result (Unit {0}) Refusal) → Begun a n s t r → GoesOn a old (after p (Begin n) (as_outcome (λ _. Began) r)) t
@@ -80,7 +80,7 @@ module _ {G : Type 0} (a : Algebra G) where
   add_on {s = s} {t} (begun l some holding count) x g (Ok r) made = record {
     tied = begun l some (accepted_on x g (ap is_sealed made.0.1) made.1 holding) count;
     begins = omega arith;
-    keeps = λ e. adds_keep a s t x g r made;
+    keeps = λ e. add_keeps s t a x g (Ok r) made;
   }
   add_on old x g (Err e) made = still old made.0
 
@@ -104,7 +104,7 @@ module _ {G : Type 0} (a : Algebra G) where
       record {
         tied = begun (l ++ on.0) some on.2 (length-append l on.0 ∙ (let e = on.1 in let f : length l + length on.0 ≡ p.settled + r.0 = omega arith in f));
         begins = omega arith;
-        keeps = λ e. settles_keep a s t n r made;
+        keeps = λ e. settle_keeps s t a n (Ok r) made;
       }
   settle_on old n (Err e) made = still old made.0
 

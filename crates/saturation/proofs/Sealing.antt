@@ -11,9 +11,11 @@ use Rattle.saturation.specs.declared.table.Table.{Table}
 use Rattle.saturation.specs.Phases.{is_begun, sizes_of, stands_full, phase_of}
 use Rattle.saturation.specs.Tables.{State, view}
 use Rattle.saturation.specs.Turns.{TakesTurns}
-use Rattle.saturation.specs.Saturation.{TableSettles}
+use Rattle.saturation.specs.Saturation.{SettledRows, TableSettles}
+use Rattle.saturation.specs.Memory.{SettlesRows}
+use Rattle.saturation.proofs.Leaving.{settles_none}
 use Rattle.saturation.proofs.Turning.{takes_rows, takes_run}
-use Rattle.saturation.specs.Saturation.SettledRows.{went_on}
+use Rattle.saturation.specs.Saturation.SettledRows.{stood_full, went_on}
 
 pub not_standing : (p : Phase) → ((n : Sizes) → p ≡ phase.Full n → ⊥) → stands_full p ≡ false
 not_standing Idle other = refl
@@ -25,6 +27,11 @@ pub phase_on : (n : Sizes) (stand : Stand) → (stand ≡ Full → ⊥) → Runn
 phase_on n Open other = refl
 phase_on n Ended other = refl
 phase_on n Full other = absurd (other refl)
+
+-- a settle leaves rows as turns do, also where it takes none
+pub settled_rows : {G : Type 0} (s t : Table G) (count : ℕ) (stand : Stand) → SettledRows s t count stand → SettlesRows (view s) (view t) count
+settled_rows s t _ _ (stood_full full same phase) = subst (λ (z : State _). SettlesRows (view s) z 0) (sym same) (settles_none (view s))
+settled_rows s t _ _ (went_on free phase rows) = rows
 
 module _ {G : Type 0} (al : Algebra G) (n : ℕ) (r : ℕ × Stand) (s t : Table G) (u : State G) where
   pub went_so : (sizes : Sizes) → sizes ≡ sizes_of s.phase → is_begun s.phase ≡ true → stands_full s.phase ≡ false → view t ≡ u → t.phase ≡ phase_of sizes r.1 →

@@ -7,7 +7,7 @@ use Rattle.saturation.specs.Offering.{Grown}
 use Rattle.saturation.proofs.Offers.{grown_refl, grown_trans}
 use Rattle.saturation.proofs.Leaving.{leaves_capacity}
 use Rattle.saturation.proofs.Sameness.{same_then}
-use Rattle.reasoner.proofs.Leaving.{begun_leaves}
+use Rattle.reasoner.proofs.Leaving.{restarted_leaves}
 use Rattle.reasoner.specs.Filling.{Filled}
 use Rattle.reasoner.proofs.Fillings.{filled_none, filled_skip, filled_holds}
 use Rattle.reasoner.proofs.calls.begin.Goals as goal
@@ -51,4 +51,4 @@ returns-clause-answer g c =
     let all : length (tautologies n) ≤ c.loop-k.k = let a = c.loop-k-test.false in omega arith in
     let enough : length (tautologies n) ≤ capacity (view c.args.reasoner.now) = let a = c.if-capacity-count.false in let b = c.capacity.ensures in omega arith in
     let ranged = c.in_ok-check.ensures in
-    (ranged, enough, (inv.0.2 ∙ begun.phase, ranged, filled_holds al n (view c.loop-k.reasoner) c.loop-k.k inv.2 all), begun_leaves (view c.args.reasoner.now) (view c.restart.new.self) (view c.loop-k.reasoner) begun.state inv.1.leaves)
+    (ranged, enough, (inv.0.2 ∙ begun.phase, ranged, filled_holds al n (view c.loop-k.reasoner) c.loop-k.k inv.2 all), restarted_leaves (view c.args.reasoner.now) (view c.restart.new.self) (view c.loop-k.reasoner) begun.state inv.1.leaves)
