@@ -76,6 +76,6 @@ arranged rule First n i j = n ∷ j ∷ i ∷ []
 arranged rule Second n i j = cond (rule == 14) (i ∷ n ∷ j ∷ []) (j ∷ n ∷ i ∷ [])
 arranged rule Third n i j = i ∷ j ∷ n ∷ []
 
--- as many as the rule has premises
+-- as many as the rule has premises, j the last
 abbrev pub seated : ℕ → Position → ℕ → ℕ → ℕ → List ℕ
 seated rule position n i j = cond (arity_of rule == 1) (n ∷ []) (cond (arity_of rule == 2) (paired position n j) (arranged rule position n i j))

@@ -21,6 +21,7 @@ pub(crate) struct Inference<'k, K: Kind> {
     pub rule: Rule,
 }
 
+// Each call says anew that places are settled: they are places in this very table, and no value beside it keeps them in range.
 impl<'a, G: Copy> Table<'a, G> {
     // The statements settled at these places.
     fn premises(&self, at: Places) -> Premises
