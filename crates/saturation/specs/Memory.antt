@@ -63,5 +63,6 @@ pub data Offered {G : Type 0} (a : Algebra G) (s t : State G) (x : Statement) (g
   new : Absent s x → s.len < capacity s → t.len ≡ s.len + 1 → Sets s t s.len (entry (row_at s s.len) x step) g → Offered a s t x g step true
   bettered : (i : ℕ) → i < s.len → statement_at s i ≡ x → OpenAt s i → ((d : G) → a.no_worse (slice_index_or s.grades i d) g ≡ false) →
       t.len ≡ s.len → Sets s t i (rekept (row_at s i) step) g → Offered a s t x g step true
-  as_good : (i : ℕ) → i < s.len → statement_at s i ≡ x → (OpenAt s i → (d : G) → NoWorse a (slice_index_or s.grades i d) g) → t ≡ s → Offered a s t x g step true
+  as_good : (i : ℕ) → i < s.len → statement_at s i ≡ x → (OpenAt s i → (d : G) → NoWorse a (slice_index_or s.grades i d) g) →
+      t ≡ s → Offered a s t x g step true
   no_row : Absent s x → has_room s ≡ false → t ≡ s → Offered a s t x g step false

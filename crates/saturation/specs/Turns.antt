@@ -51,7 +51,8 @@ Turned a individuals s t Overflowed = TookTurn a individuals s t false
 -- so many turns, each of which settled a statement, led to this state
 pub data Turns {G : Type 0} (a : Algebra G) (individuals : ℕ) (s : State G) : ℕ → State G → Type 0 where
   none : Turns a individuals s 0 s
-  one_more : {k : ℕ} (t u : Table G) → Turns a individuals s k (view t) → Turned a individuals (view t) (view u) Settled → Turns a individuals s (k + 1) (view u)
+  one_more : {k : ℕ} (t u : Table G) → Turns a individuals s k (view t) → Turned a individuals (view t) (view u) Settled →
+      Turns a individuals s (k + 1) (view u)
 
 -- how the rows stand of a run that does not stand full
 abbrev pub stand_of_rows : {G : Type 0} → State G → Stand
@@ -62,5 +63,5 @@ pub data TakesTurns {G : Type 0} (a : Algebra G) (individuals n : ℕ) (s t : St
   all_taken : (u : Table G) → Turns a individuals s count (view u) → count ≡ n → t ≡ view u → TakesTurns a individuals n s t count (stand_of_rows t)
   nothing_left : (u v : Table G) → Turns a individuals s count (view u) → count < n → Turned a individuals (view u) (view v) Nothing → t ≡ view v →
       TakesTurns a individuals n s t count Ended
-  overflowed : {k : ℕ} (u v : Table G) → Turns a individuals s k (view u) → k < n → count ≡ k + 1 → Turned a individuals (view u) (view v) Overflowed → t ≡ view v →
-      TakesTurns a individuals n s t count Full
+  overflowed : {k : ℕ} (u v : Table G) → Turns a individuals s k (view u) → k < n → count ≡ k + 1 →
+      Turned a individuals (view u) (view v) Overflowed → t ≡ view v → TakesTurns a individuals n s t count Full
