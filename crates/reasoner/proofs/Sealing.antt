@@ -28,12 +28,12 @@ stands_for_after al b l t Full is range h = (is, range, h)
 -- a table that does not stand full has the phase of how it stands after a settle
 phase_told : {G : Type 0} (s t : Table G) (count : ℕ) (stand : Stand) → stands_full s.phase ≡ false → SettledRows s t count stand → t.phase ≡ phase_of (sizes_of s.phase) stand
 phase_told s t _ _ free (stood_full full same phase) = absurd (both_ways _ free full)
-phase_told s t _ _ free (went_on still phase rows) = phase
+phase_told s t _ _ free (went_on still phase rows stands) = phase
 
 -- and one that does is left as it is
 left_full : {G : Type 0} (s t : Table G) (count : ℕ) (stand : Stand) → stands_full s.phase ≡ true → SettledRows s t count stand → (count ≡ 0) × (stand ≡ Full) × (view t ≡ view s) × (t.phase ≡ s.phase)
 left_full s t _ _ full (stood_full still same phase) = (refl, refl, same, phase)
-left_full s t _ _ full (went_on free phase rows) = absurd (both_ways _ free full)
+left_full s t _ _ full (went_on free phase rows stands) = absurd (both_ways _ free full)
 
 module _ {G : Type 0} (al : Algebra G) (n : ℕ) (s t : Table G) (r : ℕ × Stand) (rows : SettledRows s t r.0 r.1)
     (run : stands_full s.phase ≡ false → Settles al (sizes_of s.phase).individuals (view s) (view t) n r.0 r.1) where

@@ -115,7 +115,7 @@ module _ {G : Type 0} (al : Algebra G) (base : Base G) (l : Settled G) (s : Stat
         let u = it.new l h.lists j new lt in
         (u.0, uses_offers al base l o (statement_at t j, u.0) u.1))
         (below_or j s.len) in
-        let full = k.full in
+        let full = it.full refl in
         let long = length_held t t.len in
         let more = length-append (held t t.len) (x ∷ []) in (
           held t t.len ++ x ∷ [],

@@ -14,7 +14,7 @@ use Rattle.saturation.specs.Turns.{TakesTurns}
 use Rattle.saturation.specs.Saturation.{SettledRows, TableSettles}
 use Rattle.saturation.specs.Memory.{SettlesRows}
 use Rattle.saturation.proofs.Leaving.{settles_none}
-use Rattle.saturation.proofs.Turning.{takes_rows, takes_run}
+use Rattle.saturation.proofs.Turning.{takes_rows, takes_stands, takes_run}
 use Rattle.saturation.specs.Saturation.SettledRows.{stood_full, went_on}
 
 pub not_standing : (p : Phase) → ((n : Sizes) → p ≡ phase.Full n → ⊥) → stands_full p ≡ false
@@ -31,7 +31,7 @@ phase_on n Full other = absurd (other refl)
 -- a settle leaves rows as turns do, also where it takes none
 pub settled_rows : {G : Type 0} (s t : Table G) (count : ℕ) (stand : Stand) → SettledRows s t count stand → SettlesRows (view s) (view t) count
 settled_rows s t _ _ (stood_full full same phase) = subst (λ (z : State _). SettlesRows (view s) z 0) (sym same) (settles_none (view s))
-settled_rows s t _ _ (went_on free phase rows) = rows
+settled_rows s t _ _ (went_on free phase rows stands) = rows
 
 module _ {G : Type 0} (al : Algebra G) (n : ℕ) (r : ℕ × Stand) (s t : Table G) (u : State G) where
   pub went_so : (sizes : Sizes) → sizes ≡ sizes_of s.phase → is_begun s.phase ≡ true → stands_full s.phase ≡ false → view t ≡ u → t.phase ≡ phase_of sizes r.1 →
@@ -42,7 +42,7 @@ module _ {G : Type 0} (al : Algebra G) (n : ℕ) (r : ℕ × Stand) (s t : Table
       subst (λ (m : Sizes). TakesTurns al m.individuals n (view s) (view t) r.0 r.1) are (subst (λ (z : State G). TakesTurns al sizes.individuals n (view s) z r.0 r.1) (sym rows_are) turns) in (
         begun,
         within,
-        went_on free (ends ∙ ap (λ (m : Sizes). phase_of m r.1) are) (takes_rows al v n (view s) (view t) r.0 r.1 told),
+        went_on free (ends ∙ ap (λ (m : Sizes). phase_of m r.1) are) (takes_rows al v n (view s) (view t) r.0 r.1 told) (takes_stands al v n (view s) (view t) r.0 r.1 told),
         λ _. told,
         λ _. takes_run al v n (view s) (view t) r.0 r.1 told,
       )

@@ -51,6 +51,7 @@ module _ {G : Type 0} (al : Algebra G) where
       apart = λ h. h;
       new = λ l is k low h. absurd (let z : ⊥ = omega arith in z);
       all = λ _ l is. enum_none s (A l) (May l) (none l is);
+      full = λ e. absurd (both_ways true e refl);
       stuck = λ e. absurd (both_ways true e refl);
       keeps = λ base e l is right. right;
     }
@@ -67,6 +68,7 @@ module _ {G : Type 0} (al : Algebra G) where
               (λ ge. y.new l (up l is) k ge h)
               (below_or k t.len);
           all = λ e l is. enum_then s t u (A l) (B l) (May l) (x.all on l is) (y.all e l (up l is));
+          full = y.full;
           stuck = λ e l is. y.stuck e l (up l is);
           keeps = λ base e l is right. y.keeps base e l (up l is) (x.keeps base e l is right);
         }
@@ -77,9 +79,10 @@ module _ {G : Type 0} (al : Algebra G) where
       apart = x.apart;
       new = λ l is k low h. let o = x.new l is k low h in (o.0, m l is (statement_at t k, o.0) o.1);
       all = λ e l is. enum_as s t (A l) (B l) (May l) (May' l) (f l is) (m l is) (x.all e l is);
+      full = x.full;
       stuck = λ e l is.
           let k = x.stuck e l is in
-          record { full = k.full; o = k.o; may = m l is k.o k.may; absent = k.absent };
+          record { o = k.o; may = m l is k.o k.may; absent = k.absent };
       keeps = x.keeps;
     }
 
@@ -90,6 +93,7 @@ module _ {G : Type 0} (al : Algebra G) where
       apart = x.apart;
       new = x.new;
       all = λ e. absurd (both_ways false refl e);
+      full = λ _. x.full off;
       stuck = λ _. x.stuck off;
       keeps = x.keeps;
     }
@@ -129,10 +133,10 @@ module _ {G : Type 0} (al : Algebra G) where
                 let second : o.1 ≡ g = a.grade ∙ ap (λ (qs : List (Statement × G)). joined al (grades_of qs)) same ∙ sym grade in
                 let pair : ◌≡◌ {A = Statement × G} (y, g) (o.0, o.1) = cc in
                 pair) (made l is);
+            full = λ e. let no_row = taken.refused e in subst (λ (z : State G). has_room z ≡ false) (sym no_row.0) no_row.1;
             stuck = λ e l is.
                 let no_row = taken.refused e in
                 record {
-                  full = subst (λ (z : State G). has_room z ≡ false) (sym no_row.0) no_row.1;
                   o = (y, g);
                   may = made l is;
                   absent = subst (λ (z : State G). Absent z y) (sym no_row.0) no_row.2;

@@ -76,6 +76,7 @@ module _ {G : Type 0} (al : Algebra G) (laws : Laws al) (v : ℕ) (s m n t : Sta
         all = λ e l old.
             let en = subst (λ (j : ℕ). Enumerated al n t (Uses al v (l ++ o ∷ []) j) (Uses al v (l ++ o ∷ []) j)) (sym old.long) (went.all e (l ++ o ∷ []) (relisted l old)) in
             record { os = en.os; ranked = λ off r. en.ranked off (ranked off r); sound = en.sound; complete = en.complete };
+        full = went.full;
         stuck = λ e l old. subst (λ (j : ℕ). Stuck t (Uses al v (l ++ o ∷ []) j)) (sym old.long) (went.stuck e (l ++ o ∷ []) (relisted l old));
         keeps = λ base e l old right explained.
             let right_n = but_right from_settled al base (l ++ o ∷ []) (settled_right s i within fits room al base l o right) in

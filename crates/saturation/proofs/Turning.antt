@@ -1,20 +1,29 @@
 -- Turn after turn, in the words of rows and of a run.
-use Rattle.std.proofs.Common.{◌≡◌, ℕ, ◌+◌, sym, refl, subst, arith}
+use Rattle.std.proofs.Common.{◌≡◌, ℕ, ◌+◌, sym, refl, subst, arith, Bool, true, false, cond, nat_le}
+use Rattle.std.proofs.lemmas.Bool.Decides.{nat_tests}
 use Rattle.standpoint.specs.Algebra.{Algebra}
 use Rattle.runs.specs.declared.Stand.{Stand}
-use Rattle.runs.specs.declared.Stand.TheVariants.{Ended, Full}
+use Rattle.runs.specs.declared.Stand.TheVariants.{Open, Ended, Full}
 use Rattle.saturation.specs.declared.table.Table.{Table}
 use Rattle.saturation.specs.declared.turn.Turn.{Turn}
 use Rattle.saturation.specs.declared.turn.Turn.TheVariants.{Nothing, Settled, Overflowed}
-use Rattle.saturation.specs.Tables.{State, view}
+use Rattle.saturation.specs.Tables.{State, view, has_room}
 use Rattle.saturation.specs.Memory.{SettlesRows}
 use Rattle.saturation.specs.Turns.{Turned, Turns, stand_of_rows, none, one_more, TakesTurns, all_taken, nothing_left, overflowed}
-use Rattle.saturation.specs.Saturation.{Settles}
+use Rattle.saturation.specs.Saturation.{Settles, StandsByRows}
 use Rattle.saturation.proofs.RowFacts.{fits_of}
 use Rattle.saturation.proofs.Leaving.{leaves_capacity, settles_none, settles_then}
 use Rattle.saturation.proofs.Going.{GoesOn, went_on}
 use Rattle.saturation.proofs.Taking.{turned_rows}
 use Rattle.saturation.proofs.Lasting.{SoFar, so_far_none, so_far_more, so_far_ended, so_far_full, so_far_done}
+
+-- rows of which one is not settled stand open
+rows_stand : {G : Type 0} (t : State G) → StandsByRows t (stand_of_rows t)
+rows_stand t = by_test (nat_le t.len t.settled) refl
+  where
+    by_test : (b : Bool) → nat_le t.len t.settled ≡ b → StandsByRows t (cond b Ended Open)
+    by_test true e = tt
+    by_test false e = grind (arith, nat_tests)
 
 module _ {G : Type 0} (al : Algebra G) (v : ℕ) where
   goes_on : (t u : Table G) (r : Turn) → Turned al v (view t) (view u) r → GoesOn al v (view t) (view u) r
@@ -39,6 +48,11 @@ module _ {G : Type 0} (al : Algebra G) (v : ℕ) where
     takes_rows _ (overflowed {k} u w turns few one turned is) =
         let both : SettlesRows s (view w) (k + 1) = settles_then k 1 (turns_rows s turns) (turned_rows al v (view u) (view w) Overflowed turned) in
         subst (λ (z : State G). SettlesRows s z count) (sym is) (subst (SettlesRows s (view w)) (sym one) both)
+
+    pub takes_stands : (stand : Stand) → TakesTurns al v n s t count stand → StandsByRows t stand
+    takes_stands _ (all_taken u turns all is) = rows_stand t
+    takes_stands _ (nothing_left u w turns few turned is) = tt
+    takes_stands _ (overflowed u w turns few one turned is) = subst (λ (z : State G). has_room z ≡ false) (sym is) (turned.full refl)
 
     pub takes_run : (stand : Stand) → TakesTurns al v n s t count stand → Settles al v s t n count stand
     takes_run _ (all_taken u turns all is) =

@@ -1,5 +1,5 @@
 -- A table that holds a run.
-use Rattle.std.specs.Prelude.{◌≡◌, ℕ, ◌≤◌, true, false, cond, List, ◌++◌, length, Ok, Err, Result}
+use Rattle.std.specs.Prelude.{◌≡◌, ℕ, ◌<◌, ◌≤◌, true, false, cond, List, ◌++◌, length, Ok, Err, Result}
 use Rattle.standpoint.specs.declared.refusal.Refusal.{Refusal}
 use Rattle.standpoint.specs.declared.refusal.Refusal.TheVariants.{NotBegun}
 use Rattle.standpoint.specs.declared.statement.Statement.{Statement}
@@ -11,7 +11,7 @@ use Rattle.runs.specs.declared.Stand.{Stand}
 use Rattle.runs.specs.declared.Stand.TheVariants.{Open, Ended, Full}
 use Rattle.saturation.specs.declared.table.Table.{Table}
 use Rattle.saturation.specs.Phases.{is_begun, sizes_of, stands_full, phase_of}
-use Rattle.saturation.specs.Tables.{State, view, capacity}
+use Rattle.saturation.specs.Tables.{State, view, capacity, has_room}
 use Rattle.saturation.specs.Memory.{SettlesRows}
 use Rattle.saturation.specs.Turns.{TakesTurns, stand_of_rows}
 use Rattle.saturation.specs.Offering.{Apart, Ranked, RowsRight, Explained}
@@ -53,12 +53,18 @@ Settles {G} a individuals s t n count stand =
     (later : Settled G) × ((length later ≡ count) × (Settling a base (capacity s) n settled later
     × (Stands a base (capacity s) (settled ++ later) stand × HoldsAs a base (settled ++ later) t stand)))
 
+-- a run stands full only where no row is free, and open only where a row is not settled, whatever the rows hold
+abbrev pub StandsByRows : {G : Type 0} → State G → Stand → Type 0
+StandsByRows t Open = t.settled < t.len
+StandsByRows t Ended = Unit {0}
+StandsByRows t Full = has_room t ≡ false
+
 -- what a settle makes of a table that is begun, whatever its rows hold: nothing where it stands full, else it seals the base, settles so
 -- many more, and stands full from then on or not
 pub data SettledRows {G : Type 0} (s t : Table G) : ℕ → Stand → Type 0 where
   stood_full : stands_full s.phase ≡ true → view t ≡ view s → t.phase ≡ s.phase → SettledRows s t 0 Full
   went_on : {count : ℕ} {stand : Stand} → stands_full s.phase ≡ false → t.phase ≡ phase_of (sizes_of s.phase) stand →
-      SettlesRows (view s) (view t) count → SettledRows s t count stand
+      SettlesRows (view s) (view t) count → StandsByRows (view t) stand → SettledRows s t count stand
 
 -- the answer of settle: refused where no run is begun
 abbrev pub TableSettles : {G : Type 0} → Algebra G → ℕ → Table G → Table G → Result (ℕ × Stand) Refusal → Type 0

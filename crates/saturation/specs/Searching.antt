@@ -40,9 +40,8 @@ pub record Enumerated {G : Type 0} (a : Algebra G) (s t : State G) (Sure May : S
   pub sound : (o : Statement × G) → In os o → May o
   pub complete : (o : Statement × G) → Sure o → In os o
 
--- no row is free, and something of May has none
+-- something of May has no row
 pub record Stuck {G : Type 0} (t : State G) (May : Statement × G → Type 0) : Type 0 where
-  pub full : has_room t ≡ false
   pub o : Statement × G
   pub may : May o
   pub absent : Absent t o.0
@@ -51,12 +50,13 @@ pub record Stuck {G : Type 0} (t : State G) (May : Statement × G → Type 0) : 
 abbrev pub NewFrom : {G : Type 0} → State G → State G → (Statement × G → Type 0) → Type 0
 NewFrom {G} s t May = (k : ℕ) → s.len ≤ k → k < t.len → (g : G) × May (statement_at t k, g)
 
--- all of Sure was offered and nothing that is not of May, or something of May found no row
+-- all of Sure was offered and nothing that is not of May, or no row is free, and something of May found none
 pub record Went {G : Type 0} (a : Algebra G) (individuals : ℕ) (s t : State G) (Sure May : List (Statement × G) → Statement × G → Type 0) (r : Bool) : Type 0 where
   pub grown : Grown s t
   pub apart : Apart s → Apart t
   pub new : (settled : List (Statement × G)) → Lists s settled → NewFrom s t (May settled)
   pub all : r ≡ true → (settled : List (Statement × G)) → Lists s settled → Enumerated a s t (Sure settled) (May settled)
+  pub full : r ≡ false → has_room t ≡ false
   pub stuck : r ≡ false → (settled : List (Statement × G)) → Lists s settled → Stuck t (May settled)
   pub keeps : (base : Base G) → base.sizes.individuals ≡ individuals → (settled : List (Statement × G)) → Lists s settled → RowsRight a base settled s → RowsRight a base settled t
 

@@ -11,7 +11,7 @@ use Rattle.saturation.specs.declared.turn.Turn.TheVariants.{Nothing, Settled, Ov
 use Rattle.runs.specs.declared.Stand.{Stand}
 use Rattle.runs.specs.declared.Stand.TheVariants.{Open, Ended, Full}
 use Rattle.saturation.specs.declared.table.Table.{Table}
-use Rattle.saturation.specs.Tables.{State, view, statement_at, OpenAt}
+use Rattle.saturation.specs.Tables.{State, view, has_room, statement_at, OpenAt}
 use Rattle.saturation.specs.Memory.{Leaves, KeepsSettled}
 use Rattle.saturation.specs.Places.{Uses}
 use Rattle.saturation.specs.Offering.{Apart, Ranked, RowsRight, Explained}
@@ -38,6 +38,7 @@ pub record TookTurn {G : Type 0} (a : Algebra G) (individuals : ℕ) (s t : Stat
   pub new : (settled : List (Statement × G)) → Lists s settled → NewFrom s t (Uses a individuals (settled ++ o ∷ []) (length settled))
   pub all : r ≡ true → (settled : List (Statement × G)) → Lists s settled →
       Enumerated a s t (Uses a individuals (settled ++ o ∷ []) (length settled)) (Uses a individuals (settled ++ o ∷ []) (length settled))
+  pub full : r ≡ false → has_room t ≡ false
   pub stuck : r ≡ false → (settled : List (Statement × G)) → Lists s settled → Stuck t (Uses a individuals (settled ++ o ∷ []) (length settled))
   pub keeps : (base : Base G) → base.sizes.individuals ≡ individuals → (settled : List (Statement × G)) → Lists s settled →
       RowsRight a base settled s → Explained a base settled s → RowsRight a base (settled ++ o ∷ []) t × Explained a base (settled ++ o ∷ []) t
