@@ -14,6 +14,7 @@ use Rattle.saturation.specs.Phases.{is_begun, sizes_of, stands_full, phase_of}
 use Rattle.saturation.specs.Tables.{view, capacity}
 use Rattle.saturation.proofs.Leaving.{leaves_capacity}
 use Rattle.saturation.proofs.Sealing.{settled_rows}
+use Rattle.saturation.specs.Turns.{TakesTurns}
 use Rattle.saturation.specs.Saturation.{Holds, HoldsFull, HoldsAs, Settles, SettledRows, TableSettles}
 use Rattle.saturation.specs.Saturation.SettledRows.{stood_full, went_on}
 use Rattle.reasoner.specs.Models.{stopped, StandsFor}
@@ -36,6 +37,7 @@ left_full s t _ _ full (stood_full still same phase) = (refl, refl, same, phase)
 left_full s t _ _ full (went_on free phase rows stands) = absurd (both_ways _ free full)
 
 module _ {G : Type 0} (al : Algebra G) (n : ℕ) (s t : Table G) (r : ℕ × Stand) (rows : SettledRows s t r.0 r.1)
+    (turns : stands_full s.phase ≡ false → TakesTurns al (sizes_of s.phase).individuals n (view s) (view t) r.0 r.1)
     (run : stands_full s.phase ≡ false → Settles al (sizes_of s.phase).individuals (view s) (view t) n r.0 r.1) where
   pub settles_on : (b : Base G) (l : Settled G) → stands_full s.phase ≡ false → sizes_of s.phase ≡ b.sizes → InRange b.sizes → Holds al b l (view s) → SettlesOn al n b l s t r.0 r.1
   settles_on b l free sizes range h =
@@ -56,10 +58,11 @@ module _ {G : Type 0} (al : Algebra G) (n : ℕ) (s t : Table G) (r : ℕ × Sta
     stays_full,
     within,
     rows,
+    turns,
   )
 
 pub settles_as_table : {G : Type 0} (al : Algebra G) (n : ℕ) (s t : Table G) (r : Result (ℕ × Stand) Refusal) → TableSettles al n s t r → SettledSo al n s t r
-settles_as_table al n s t (Ok r) h = settled_so al n s t r h.2 h.4 h.0 h.1
+settles_as_table al n s t (Ok r) h = settled_so al n s t r h.2 h.3 h.4 h.0 h.1
 settles_as_table al n s t (Err e) h = ((h.0, h.1), h.2, h.3)
 
 pub settles_long : {G : Type 0} (al : Algebra G) (n : ℕ) (s t : Table G) (r : Result (ℕ × Stand) Refusal) → TableSettles al n s t r → capacity (view t) ≡ capacity (view s)

@@ -15,10 +15,11 @@ use Rattle.runs.specs.declared.Stand.TheVariants.{Open, Ended, Full}
 use Rattle.runs.specs.Runs.{Settled, Known, Settling, Stands}
 use Rattle.saturation.specs.declared.table.Table.{Table}
 use Rattle.saturation.specs.declared.phase.Phase.TheVariants.{Taking}
-use Rattle.saturation.specs.Phases.{is_begun, is_sealed}
+use Rattle.saturation.specs.Phases.{is_begun, is_sealed, sizes_of, stands_full}
 use Rattle.saturation.specs.Rows.{kept}
 use Rattle.saturation.specs.Tables.{view, capacity, has_room, Absent}
 use Rattle.saturation.specs.Memory.{Leaves, KeepsSettled, Offered}
+use Rattle.saturation.specs.Turns.{TakesTurns}
 use Rattle.saturation.specs.Saturation.{SettledRows}
 use Rattle.reasoner.specs.Models.{Model, based, running, stopped, empty_base, accepting, StandsFor}
 
@@ -73,7 +74,7 @@ SettlesOn {G} a n b l s t count stand =
     (later : Settled G) × ((length later ≡ count) × (Settling a b (capacity (view s)) n l later
     × (Stands a b (capacity (view s)) (l ++ later) stand × StandsFor a (model_after b (l ++ later) stand) t)))
 
--- settle seals the base and settles; it refuses only a reasoner that is not begun
+-- settle seals the base and settles, turn by turn whatever the rows hold; it refuses only a reasoner that is not begun
 abbrev pub SettledSo : {G : Type 0} → Algebra G → ℕ → Table G → Table G → Result (ℕ × Stand) Refusal → Type 0
 SettledSo {G} a n s t (Ok r) =
     (is_begun s.phase ≡ true)
@@ -81,4 +82,5 @@ SettledSo {G} a n s t (Ok r) =
     × ((b : Base G) (l : Settled G) → StandsFor a (running b l) s → SettlesOn a n b l s t r.0 r.1)
     × ((b : Base G) (l : Settled G) → StandsFor a (stopped b l) s → (r.0 ≡ 0) × (r.1 ≡ Full) × StandsFor a (stopped b l) t)
     × (r.0 ≤ n) × SettledRows s t r.0 r.1
+    × (stands_full s.phase ≡ false → TakesTurns a (sizes_of s.phase).individuals n (view s) (view t) r.0 r.1)
 SettledSo a n s t (Err e) = Unchanged s t × (e ≡ NotBegun) × (is_begun s.phase ≡ false)
