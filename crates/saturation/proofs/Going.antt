@@ -134,7 +134,7 @@ module _ {G : Type 0} (al : Algebra G) (base : Base G) (l : Settled G) (s : Stat
     went_on turn.Settled it =
         let o = it.o in
         let f = first_next o (it.next l h.offered h.lists h.rows) in
-        let en = it.all refl l h.lists in
+        let en = it.all l h.lists in
         let k = it.keeps base refl l h.lists h.right h.explained in (
           o.0,
           (
@@ -145,9 +145,9 @@ module _ {G : Type 0} (al : Algebra G) (base : Base G) (l : Settled G) (s : Stat
                 run = settles h.run f;
                 lists = it.lists l h.lists;
                 offered = en.os ++ h.offered;
-                rows = en.ranked h.offered h.rows;
+                rows = en.ranked refl h.offered (it.rematched h.offered h.rows);
                 sound = λ v m. ⊎_elim (λ a. uses_offers al base l o v (en.sound v a)) (λ b. offers_up al base l o v.0 v.1 (h.sound v b)) (in_append_cases en.os h.offered v m);
-                complete = λ x g m. ⊎_elim (λ a. in_append_right en.os h.offered (x, g) (h.complete x g a)) (λ b. in_append_left en.os h.offered (x, g) (en.complete (x, g) b)) (offers_down al base l o x g m);
+                complete = λ x g m. ⊎_elim (λ a. in_append_right en.os h.offered (x, g) (h.complete x g a)) (λ b. in_append_left en.os h.offered (x, g) (en.complete refl (x, g) b)) (offers_down al base l o x g m);
                 right = k.0;
                 explained = k.1;
               },

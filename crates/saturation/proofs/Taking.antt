@@ -61,6 +61,11 @@ module _ {G : Type 0} (al : Algebra G) (laws : Laws al) (v : ℕ) (s m n t : Sta
       let relisted : (l : List (Statement × G)) → Lists s l → Lists n (l ++ o ∷ []) = λ l old. lists_grown (settled_row s i) n (l ++ o ∷ []) settled_fit settled_grown (listed l old) in
       record {
         o = o;
+        row = i;
+        chosen = n;
+        waits = picked;
+        winners = from_settled;
+        rematched = ranked;
         long = grown.settled;
         more = more;
         leaves = leaves_trans more (settled_leaves_memory s i within fits room) grown.leaves;
@@ -73,9 +78,7 @@ module _ {G : Type 0} (al : Algebra G) (laws : Laws al) (v : ℕ) (s m n t : Sta
             let e = from_settled.len in
             let u = went.new (l ++ o ∷ []) (relisted l old) k (omega arith) h in
             (u.0, subst (λ (j : ℕ). Uses al v (l ++ o ∷ []) j (statement_at t k, u.0)) (sym old.long) u.1);
-        all = λ e l old.
-            let en = subst (λ (j : ℕ). Enumerated al n t (Uses al v (l ++ o ∷ []) j) (Uses al v (l ++ o ∷ []) j)) (sym old.long) (went.all e (l ++ o ∷ []) (relisted l old)) in
-            record { os = en.os; ranked = λ off r. en.ranked off (ranked off r); sound = en.sound; complete = en.complete };
+        all = λ l old. subst (λ (j : ℕ). Enumerated al v (l ++ o ∷ []) n t (Uses al v (l ++ o ∷ []) j) (Uses al v (l ++ o ∷ []) j) b) (sym old.long) (went.all (l ++ o ∷ []) (relisted l old));
         full = went.full;
         stuck = λ e l old. subst (λ (j : ℕ). Stuck t (Uses al v (l ++ o ∷ []) j)) (sym old.long) (went.stuck e (l ++ o ∷ []) (relisted l old));
         keeps = λ base e l old right explained.

@@ -10,6 +10,8 @@ use Rattle.saturation.specs.declared.places.Position.TheVariants.{First, Second,
 use Rattle.saturation.specs.Tables.{State, row_at, statement_at, turn_at, OpenAt, Absent, has_room}
 use Rattle.saturation.specs.declared.lane.Lane.{Lane}
 use Rattle.saturation.specs.Lanes.{Within}
+use Rattle.saturation.specs.Memory.{Offered}
+use Rattle.saturation.specs.Places.{Step, kept_of}
 use Rattle.saturation.specs.Offering.{Apart, Ranked, Grown, RowsRight}
 
 -- the k-th settled statement with its grade, as the rows have it
@@ -33,12 +35,21 @@ pub record Lists {G : Type 0} (s : State G) (settled : List (Statement × G)) : 
   pub marked : (k : ℕ) → k < s.settled → (row_at s (turn_at s k)).place ≡ Some k
   pub back : (i : ℕ) → i < s.len → (OpenAt s i → ⊥) → (k : ℕ) × (k < s.settled) × (turn_at s k ≡ i)
 
--- from s to t some list was offered: nothing that is not of May, and everything of Sure
-pub record Enumerated {G : Type 0} (a : Algebra G) (s t : State G) (Sure May : Statement × G → Type 0) : Type 0 where
+-- each of these follows by a rule, the last one first, and was offered with that step, and had a row; nothing else led from s to t
+pub data OfferedEach {G : Type 0} (a : Algebra G) (individuals : ℕ) (settled : List (Statement × G)) (s : State G) :
+    List (Statement × G) → State G → Type 0 where
+  none : OfferedEach a individuals settled s [] s
+  one_more : {os : List (Statement × G)} {t u : State G} (o : Statement × G) (rule : ℕ) (places : List ℕ) → OfferedEach a individuals settled s os t →
+      Step a individuals settled rule places o → Offered a t u o.0 o.1 (kept_of rule places) true → OfferedEach a individuals settled s (o ∷ os) u
+
+-- from s to t some list was offered: nothing that is not of May, and everything of Sure unless a row was missing (r)
+pub record Enumerated {G : Type 0} (a : Algebra G) (individuals : ℕ) (settled : List (Statement × G)) (s t : State G)
+    (Sure May : Statement × G → Type 0) (r : Bool) : Type 0 where
   pub os : List (Statement × G)
-  pub ranked : (offered : List (Statement × G)) → Ranked a s offered → Ranked a t (os ++ offered)
+  pub each : OfferedEach a individuals settled s os t
+  pub ranked : r ≡ true → (offered : List (Statement × G)) → Ranked a s offered → Ranked a t (os ++ offered)
   pub sound : (o : Statement × G) → In os o → May o
-  pub complete : (o : Statement × G) → Sure o → In os o
+  pub complete : r ≡ true → (o : Statement × G) → Sure o → In os o
 
 -- something of May has no row
 pub record Stuck {G : Type 0} (t : State G) (May : Statement × G → Type 0) : Type 0 where
@@ -55,7 +66,7 @@ pub record Went {G : Type 0} (a : Algebra G) (individuals : ℕ) (s t : State G)
   pub grown : Grown s t
   pub apart : Apart s → Apart t
   pub new : (settled : List (Statement × G)) → Lists s settled → NewFrom s t (May settled)
-  pub all : r ≡ true → (settled : List (Statement × G)) → Lists s settled → Enumerated a s t (Sure settled) (May settled)
+  pub all : (settled : List (Statement × G)) → Lists s settled → Enumerated a individuals settled s t (Sure settled) (May settled) r
   pub full : r ≡ false → has_room t ≡ false
   pub stuck : r ≡ false → (settled : List (Statement × G)) → Lists s settled → Stuck t (May settled)
   pub keeps : (base : Base G) → base.sizes.individuals ≡ individuals → (settled : List (Statement × G)) → Lists s settled → RowsRight a base settled s → RowsRight a base settled t

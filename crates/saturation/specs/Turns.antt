@@ -11,7 +11,8 @@ use Rattle.saturation.specs.declared.turn.Turn.TheVariants.{Nothing, Settled, Ov
 use Rattle.runs.specs.declared.Stand.{Stand}
 use Rattle.runs.specs.declared.Stand.TheVariants.{Open, Ended, Full}
 use Rattle.saturation.specs.declared.table.Table.{Table}
-use Rattle.saturation.specs.Tables.{State, view, has_room, statement_at, OpenAt}
+use Rattle.saturation.specs.Tables.{State, view, has_room, statement_at, OpenAt, settled_row}
+use Rattle.saturation.specs.Tournament.{ButWinners}
 use Rattle.saturation.specs.Memory.{Leaves, KeepsSettled}
 use Rattle.saturation.specs.Places.{Uses}
 use Rattle.saturation.specs.Offering.{Apart, Ranked, RowsRight, Explained}
@@ -24,9 +25,14 @@ pub record FirstOffered {G : Type 0} (a : Algebra G) (settled offered : List (St
   pub best : (v : Statement × G) → In offered v → Unsettled settled v.0 → NoWorse a o.1 v.1
   pub least : (x : Statement) → In offered (x, o.1) → Unsettled settled x → (o.0 ≡ x) ⊎ Before o.0 x
 
--- o was settled, and all that uses it was offered (r), or some of it found no row
+-- o, in one of the rows, was settled, and all that uses it was then offered (r), or some of it found no row; nothing else changed
 pub record TookTurn {G : Type 0} (a : Algebra G) (individuals : ℕ) (s t : State G) (r : Bool) : Type 0 where
   pub o : Statement × G
+  pub row : ℕ
+  pub chosen : State G
+  pub waits : (row < s.len) × OpenAt s row
+  pub winners : ButWinners (settled_row s row) chosen
+  pub rematched : (offered : List (Statement × G)) → Ranked a s offered → Ranked a chosen offered
   pub long : t.settled ≡ s.settled + 1
   pub more : s.len ≤ t.len
   pub leaves : Leaves s t
@@ -36,8 +42,9 @@ pub record TookTurn {G : Type 0} (a : Algebra G) (individuals : ℕ) (s t : Stat
   pub apart : Apart s → Apart t
   pub old : (k : ℕ) → k < s.len → statement_at t k ≡ statement_at s k
   pub new : (settled : List (Statement × G)) → Lists s settled → NewFrom s t (Uses a individuals (settled ++ o ∷ []) (length settled))
-  pub all : r ≡ true → (settled : List (Statement × G)) → Lists s settled →
-      Enumerated a s t (Uses a individuals (settled ++ o ∷ []) (length settled)) (Uses a individuals (settled ++ o ∷ []) (length settled))
+  pub all : (settled : List (Statement × G)) → Lists s settled →
+      Enumerated a individuals (settled ++ o ∷ []) chosen t (Uses a individuals (settled ++ o ∷ []) (length settled))
+      (Uses a individuals (settled ++ o ∷ []) (length settled)) r
   pub full : r ≡ false → has_room t ≡ false
   pub stuck : r ≡ false → (settled : List (Statement × G)) → Lists s settled → Stuck t (Uses a individuals (settled ++ o ∷ []) (length settled))
   pub keeps : (base : Base G) → base.sizes.individuals ≡ individuals → (settled : List (Statement × G)) → Lists s settled →

@@ -28,4 +28,4 @@ returns-in-Some-clause-state g c =
     let places = listed_places c.args.at in
     let stands = premises_stand (view t) (t.settled_fit, t.turns) t.grades_fit al.start places c.requires in
     let some = subst (λ (qs : List Statement). Concluded n (number_of_rule c.args.inference.now.rule) qs (Some c.in-Some.x)) (c.premises.ensures al.start) c.in-Some.ensures.conclusion in
-    attempt_some al n (view t) (number_of_rule c.args.inference.now.rule) places (premises_in (view t) al.start places) stands (view c.offer.new.self) c.in-Some.x c.joined.result (is_ok c.offer.result) c.kept.result c.kept.ensures c.offer.ensures.keeps some.0 some.1 (c.joined.ensures al.start) c.offer.ensures.state
+    attempt_some al n (view t) (number_of_rule c.args.inference.now.rule) places (premises_in (view t) al.start places) stands (view c.offer.new.self) c.in-Some.x c.joined.result (is_ok c.offer.result) c.kept.result c.kept.ensures c.offer.ensures.keeps some.0 some.1 (c.joined.ensures al.start) c.offer.ensures.state c.offer.ensures.rows
