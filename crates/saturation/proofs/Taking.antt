@@ -63,7 +63,7 @@ module _ {G : Type 0} (al : Algebra G) (laws : Laws al) (v : ℕ) (s m n t : Sta
         o = o;
         row = i;
         chosen = n;
-        waits = picked;
+        picked = picked;
         winners = from_settled;
         rematched = ranked;
         long = grown.settled;

@@ -1,11 +1,11 @@
 -- Which row is settled next.
-use Rattle.std.specs.Prelude.{ℕ, ◌<◌, List, get_or, Some, None, Option, slice_index_or}
+use Rattle.std.specs.Prelude.{◌≡◌, ℕ, ◌<◌, List, get_or, Some, None, Option, slice_index_or}
 use Rattle.standpoint.specs.declared.statement.Statement.{Statement}
 use Rattle.standpoint.specs.Algebra.{Algebra, NoWorse}
 use Rattle.standpoint.specs.Statements.{Before}
 use Rattle.saturation.specs.declared.row.Row.{Row}
 use Rattle.saturation.specs.Rows.{no_row}
-use Rattle.saturation.specs.Tables.{State, OpenAt}
+use Rattle.saturation.specs.Tables.{State, OpenAt, row_at}
 
 -- x at g is to be settled before y at h: the better grade, and among equals the least statement
 abbrev pub Ahead : {G : Type 0} → Algebra G → G → Statement → G → Statement → Type 0
@@ -24,7 +24,7 @@ abbrev pub Chosen : {G : Type 0} → Algebra G → State G → ℕ → Option �
 Chosen a s n None = (k : ℕ) → k < n → OpenAt s k → ⊥
 Chosen a s n (Some i) = (i < n) × OpenAt s i × ((k : ℕ) → k < n → OpenAt s k → RowAhead a s k i → ⊥)
 
--- an unsettled row, if any
+-- the winner at row 0, if it is unsettled
 abbrev pub Picked : {G : Type 0} → State G → Option ℕ → Type 0
-Picked s None = Unit {0}
-Picked s (Some i) = (i < s.len) × OpenAt s i
+Picked s None = OpenAt s (row_at s 0).winner → ⊥
+Picked s (Some i) = (i < s.len) × OpenAt s i × (i ≡ (row_at s 0).winner)

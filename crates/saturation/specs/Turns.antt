@@ -1,5 +1,5 @@
 -- One turn: the next statement is settled, and what follows from it is offered.
-use Rattle.std.specs.Prelude.{◌≡◌, ℕ, ◌+◌, ◌<◌, ◌≤◌, Bool, true, false, cond, nat_le, ◌⊎◌, List, [], ◌∷◌, ◌++◌, length}
+use Rattle.std.specs.Prelude.{◌≡◌, ℕ, ◌+◌, ◌<◌, ◌≤◌, Bool, true, false, cond, nat_le, ◌⊎◌, List, [], ◌∷◌, ◌++◌, length, Some, None}
 use Rattle.standpoint.specs.declared.statement.Statement.{Statement}
 use Rattle.standpoint.specs.Lists.{In}
 use Rattle.standpoint.specs.Algebra.{Algebra, NoWorse}
@@ -12,6 +12,7 @@ use Rattle.runs.specs.declared.Stand.{Stand}
 use Rattle.runs.specs.declared.Stand.TheVariants.{Open, Ended, Full}
 use Rattle.saturation.specs.declared.table.Table.{Table}
 use Rattle.saturation.specs.Tables.{State, view, has_room, statement_at, OpenAt, settled_row}
+use Rattle.saturation.specs.Choosing.{Picked}
 use Rattle.saturation.specs.Tournament.{ButWinners}
 use Rattle.saturation.specs.Memory.{Leaves, KeepsSettled}
 use Rattle.saturation.specs.Places.{Uses}
@@ -30,7 +31,7 @@ pub record TookTurn {G : Type 0} (a : Algebra G) (individuals : ℕ) (s t : Stat
   pub o : Statement × G
   pub row : ℕ
   pub chosen : State G
-  pub waits : (row < s.len) × OpenAt s row
+  pub picked : Picked s (Some row)
   pub winners : ButWinners (settled_row s row) chosen
   pub rematched : (offered : List (Statement × G)) → Ranked a s offered → Ranked a chosen offered
   pub long : t.settled ≡ s.settled + 1
@@ -52,7 +53,9 @@ pub record TookTurn {G : Type 0} (a : Algebra G) (individuals : ℕ) (s t : Stat
 
 -- nothing was left to settle, or one was settled, its consequences all offered or not
 abbrev pub Turned : {G : Type 0} → Algebra G → ℕ → State G → State G → Turn → Type 0
-Turned {G} a individuals s t Nothing = (t ≡ s) × ((settled offered : List (Statement × G)) → Lists s settled → Ranked a s offered → (k : ℕ) → k < s.len → OpenAt s k → ⊥)
+Turned {G} a individuals s t Nothing =
+    (t ≡ s) × ((settled offered : List (Statement × G)) → Lists s settled → Ranked a s offered → (k : ℕ) → k < s.len → OpenAt s k → ⊥)
+    × ((s.len ≤ s.settled) ⊎ Picked s None)
 Turned a individuals s t Settled = TookTurn a individuals s t true
 Turned a individuals s t Overflowed = TookTurn a individuals s t false
 

@@ -1,4 +1,4 @@
-use Rattle.std.proofs.Common.{ℕ, true, false, refl, subst}
+use Rattle.std.proofs.Common.{ℕ, true, false, refl, subst, inl, inr}
 use Rattle.saturation.specs.declared.turn.Turn.TheVariants.{Settled, Overflowed}
 use Rattle.saturation.specs.Tables.{view}
 use Rattle.saturation.specs.Turns.{Turned}
@@ -9,10 +9,10 @@ use Rattle.saturation.proofs.table.Table.settle_one.Goals as goal
 pub returns-then-newest-self-clause-state : goal.returns-then-newest-self-clause-state
 returns-then-newest-self-clause-state g c =
     let t = c.args.self.now in
-    (refl, λ settled offered lists ranked. turns_out (view t) (t.settled_fit, t.turns) c.if-newest-self.true settled lists)
+    (refl, λ settled offered lists ranked. turns_out (view t) (t.settled_fit, t.turns) c.if-newest-self.true settled lists, inl c.if-newest-self.true)
 
 pub returns-in_default-clause-state : goal.returns-in_default-clause-state
-returns-in_default-clause-state g c = (refl, λ settled offered lists ranked. c.in_default.ensures.first (g.K.Kind.algebra c.args.kind.now) ranked.played)
+returns-in_default-clause-state g c = (refl, λ settled offered lists ranked. c.in_default.ensures.first (g.K.Kind.algebra c.args.kind.now) ranked.played, inr c.in_default.ensures.picked)
 
 pub returns-in-Ok-clause-state : goal.returns-in-Ok-clause-state
 returns-in-Ok-clause-state g c =
