@@ -1,5 +1,5 @@
 -- A step stays right wherever the same steps stand before it.
-use Rattle.std.proofs.Common.{◌≡◌, ℕ, ◌-◌, ◌≤◌, List, length, take, sym, ◌∙◌, arith}
+use Rattle.std.proofs.Common.{◌≡◌, ℕ, ◌-◌, ◌≤◌, List, length, take, sym, ◌∙◌, subst, arith}
 use Rattle.std.proofs.lemmas.List.{get_or-take, length-take-le}
 use Rattle.standpoint.specs.declared.step.Step.{Step}
 use Rattle.standpoint.specs.Algebra.{Algebra}
@@ -38,8 +38,16 @@ module _ {G : Type 0} (a : Algebra G) (base : Base G) where
         (at.0, omega arith, (omega (arith, at.0), λ d. get_or-take n steps (place - 1) d (omega (arith, at.0)) ∙ at.2.1 d))
 
     -- right behind the first n steps alone, or with all the others behind them
-    pub right_in_list : (s : Step G) → Right a base front (length front) s → Right a base steps n s
-    right_in_list = right_moved front steps (length front) n from_front
+    in_list : (s : Step G) → Right a base front (length front) s → Right a base steps n s
+    in_list = right_moved front steps (length front) n from_front
 
-    pub right_in_front : (s : Step G) → Right a base steps n s → Right a base front (length front) s
-    right_in_front = right_moved steps front n (length front) to_front
+    in_front : (s : Step G) → Right a base steps n s → Right a base front (length front) s
+    in_front = right_moved steps front n (length front) to_front
+
+  -- so is it for as many steps as the front has, however they are counted
+  module _ {steps : List (Step G)} {m : ℕ} {s : Step G} where
+    pub right_in_list : Right a base (take m steps) (length (take m steps)) s → m ≤ length steps → (n : ℕ) → m ≡ n → Right a base steps n s
+    right_in_list right within n is = subst (λ (k : ℕ). Right a base steps k s) is (in_list steps m within s right)
+
+    pub wrong_in_list : (Right a base (take m steps) (length (take m steps)) s → ⊥) → m ≤ length steps → (n : ℕ) → m ≡ n → Right a base steps n s → ⊥
+    wrong_in_list wrong within n is right = wrong (in_front steps m within s (subst (λ (k : ℕ). Right a base steps k s) (sym is) right))

@@ -1,6 +1,6 @@
 -- Answers carried from one question to another, and scans of a list.
-use Rattle.std.proofs.Common.{◌≡◌, ℕ, zero, suc, ◌-◌, ◌<◌, Bool, true, false, List, [], ◌∷◌, length, get_or, None, Some, Option, MatchBool, sym, refl, ap, ◌∙◌, subst, inl, inr, ⊎_elim, arith}
-use Rattle.std.specs.List.{HoldsAt, AllWithin, slice_get}
+use Rattle.std.proofs.Common.{◌≡◌, ℕ, zero, suc, ◌+◌, ◌-◌, ◌<◌, ◌≤◌, Bool, true, false, List, [], ◌∷◌, length, get_or, None, Some, Option, sym, refl, ap, ◌∙◌, subst, inl, inr, ⊎_elim, arith, below_more}
+use Rattle.std.specs.List.{slice_get}
 use Rattle.std.proofs.lemmas.Option.{slice_get-get_or}
 use Rattle.standpoint.specs.Lists.{Tells, In, StandsAt}
 
@@ -21,22 +21,21 @@ in_getD [] k d h = absurd (let z : ⊥ = omega arith in z)
 in_getD (x ∷ xs) zero d h = inl refl
 in_getD (x ∷ xs) (suc k) d h = inr (in_getD xs k d (omega arith))
 
--- what a search for a pair by its parts tells
-module _ {X Y : Type 0} (xs : List (X × Y)) (x : X) (y : Y) where
-  pub told_by_any : (b : Bool) →
-      MatchBool b ((k : ℕ) × (k < length xs) × HoldsAt (λ p. (p.0 ≡ x) × (p.1 ≡ y)) xs k) (AllWithin (λ p. (p.0 ≡ x) × (p.1 ≡ y) → ⊥) xs 0 (length xs)) →
-      Tells b (In xs (x, y))
-  told_by_any true h =
-      let o : X × Y = (x, y) in
-      let v = get_or xs h.0 o in
-      let same = h.2 o in
-      let is : ◌≡◌ {A = X × Y} (v.0, v.1) (x, y) = cc in
-      subst (In xs) is (in_getD xs h.0 o h.1)
-  told_by_any false h = λ m.
-      let o : X × Y = (x, y) in
-      let at = in_stands xs o m in
-      let e = at.1.1 o in
-      h at.0 o (omega arith) at.1.0 (ap (λ (p : X × Y). p.0) e, ap (λ (p : X × Y). p.1) e)
+-- a scan for o: what was read at i is o by its parts, or not, or the list is at its end
+module _ {X Y : Type 0} (xs : List (X × Y)) (i : ℕ) (o d : X × Y) where
+  pub scan_found : i < length xs → d ≡ get_or xs i d → (d.0 ≡ o.0) × (d.1 ≡ o.1) → In xs o
+  scan_found l read same =
+      let is : ◌≡◌ {A = X × Y} (d.0, d.1) (o.0, o.1) = cc in
+      subst (In xs) (sym read ∙ is) (in_getD xs i d l)
+
+  pub scan_more : d ≡ get_or xs i d → ((d.0 ≡ o.0) × (d.1 ≡ o.1) → ⊥) → ((k : ℕ) → k < i → StandsAt xs k o → ⊥) →
+      (k : ℕ) → k < i + 1 → StandsAt xs k o → ⊥
+  scan_more read differs below =
+      below_more (λ k. StandsAt xs k o → ⊥) i below
+      (λ at. let e = read ∙ at.1 d in differs (ap (λ (v : X × Y). v.0) e, ap (λ (v : X × Y). v.1) e))
+
+pub scan_ended : {X : Type 0} (xs : List X) (i : ℕ) (o : X) → length xs ≤ i → ((k : ℕ) → k < i → StandsAt xs k o → ⊥) → In xs o → ⊥
+scan_ended xs i o ended below m = let at = in_stands xs o m in let l = at.1.0 in below at.0 (omega arith) at.1
 
 pub no_last : {X : Type 0} (xs : List X) → slice_get xs (length xs - 1) ≡ None → xs ≡ []
 no_last [] e = refl

@@ -74,7 +74,10 @@ fn among<K: Kind>(
 ) -> bool
     ensures { Tells result (In accepted.now (statement, grade)) }
 {
-    accepted
-        .iter()
-        .any(|(x, g)| same(kind, *x, *g, statement, grade))
+    for (x, g) in accepted {
+        if same(kind, *x, *g, statement, grade) {
+            return true;
+        }
+    }
+    false
 }

@@ -2,7 +2,7 @@ use Rattle.std.proofs.Common.{arith, sym}
 use Rattle.std.proofs.lemmas.Result.{err_from_is_err_and}
 use Rattle.standpoint.specs.Verdicts.{out_of_range, no_steps, wrong_step}
 use Rattle.standpoint.proofs.Lists.{no_last}
-use Rattle.standpoint.proofs.Earlier.{right_in_list, right_in_front}
+use Rattle.standpoint.proofs.Earlier.{right_in_list, wrong_in_list}
 use Rattle.standpoint.proofs.Passing.{one_more_right, first_wrong, passes}
 use Rattle.standpoint.proofs.verdict.judge.Goals as goal
 
@@ -16,12 +16,12 @@ pub returns-then-not-right : goal.returns-then-not-right
 returns-then-not-right g c =
     wrong_step c.in_ok-check.ensures
     (first_wrong _ _ _ c.loop-n.n c.index-steps-n.result c.loop-n-test.true c.index-steps-n.is
-    (λ right. c.if-not-right.ensures (right_in_front _ _ _ c.loop-n.n (omega arith) c.index-steps-n.result right)) c.loop-n.invariant)
+    (wrong_in_list _ _ c.if-not-right.ensures (omega arith) c.loop-n.n (omega arith)) c.loop-n.invariant)
 
 pub loop-n-preserved : goal.loop-n-preserved
 loop-n-preserved g c =
     one_more_right _ _ _ c.loop-n.n c.index-steps-n.result c.loop-n-test.true c.index-steps-n.is
-    (right_in_list _ _ _ c.loop-n.n (omega arith) c.index-steps-n.result c.if-not-right.ensures) c.loop-n.invariant
+    (right_in_list _ _ c.if-not-right.ensures (omega arith) c.loop-n.n (omega arith)) c.loop-n.invariant
 
 pub returns-in-Some : goal.returns-in-Some
 returns-in-Some g c =

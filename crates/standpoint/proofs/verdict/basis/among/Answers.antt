@@ -1,12 +1,11 @@
-use Rattle.std.proofs.Common.{◌≡◌, rules, tests}
-use Rattle.std.proofs.lemmas.Iterator.{cases_from_any, YieldsList-from_slice}
-use Rattle.standpoint.proofs.Lists.{told_by_any}
+use Rattle.standpoint.proofs.Lists.{scan_found, scan_more, scan_ended}
 use Rattle.standpoint.proofs.verdict.basis.among.Goals as goal
 
+pub returns-then-same : goal.returns-then-same
+returns-then-same g c = scan_found _ c.loop-x.x-index _ _ c.loop-x-test.true c.loop-x-item.is c.if-same.ensures
+
+pub loop-x-preserved : goal.loop-x-preserved
+loop-x-preserved g c = scan_more _ c.loop-x.x-index _ _ c.loop-x-item.is c.if-same.ensures c.loop-x.invariant
+
 pub returns : goal.returns
-returns g c =
-    let x = c.args.statement in
-    let y = c.args.grade in
-    told_by_any c.args.accepted.now x y c.any.result
-    (cases_from_any _ _ _ (λ p. (p.0 ≡ x) × (p.1 ≡ y)) (λ p. (p.0 ≡ x) × (p.1 ≡ y) → ⊥) c.any.ensures.ran (YieldsList-from_slice c.args.accepted.now cc)
-    (λ p q k. search (rules, tests)) (λ p q k. search (rules, tests)))
+returns g c = scan_ended _ c.loop-x.x-index _ c.loop-x-test.false c.loop-x.invariant
