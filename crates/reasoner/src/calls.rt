@@ -1,8 +1,11 @@
 // The calls. Each tests in a fixed order, and a refusal leaves everything as it was. The kind is handed to each call apart from
 // the table, which holds grades of any kind.
+ghost use Rattle.standpoint.specs.declared.refusal.Refusal.TheVariants.{NotBegun, Sealed};
+ghost use Rattle.saturation.specs.declared.phase.Phase.TheVariants.{Taking};
+ghost use Rattle.saturation.specs.Phases.{is_begun, is_sealed};
 ghost use Rattle.saturation.specs.Tables.{view, capacity, OverSame, Same};
 ghost use Rattle.reasoner.specs.Calls.{Begun, Adds, SettledSo};
-ghost use Rattle.std.specs.Prelude.{◌≡◌};
+ghost use Rattle.std.specs.Prelude.{◌≡◌, ◌⊎◌, true, false, MatchResult};
 ghost use Rattle.saturation.specs.Offering.{Grown};
 ghost use Rattle.reasoner.specs.Filling.{Takes};
 
@@ -57,11 +60,7 @@ pub fn add<K: Kind>(
     ensures long { capacity (view reasoner.new) ≡ capacity (view reasoner.old) }
     ensures answer { Adds (K.Kind.algebra kind.now) statement grade reasoner.old reasoner.new result }
 {
-    let sizes = match reasoner.phase {
-        Phase::Idle => return Err(Refusal::NotBegun),
-        Phase::Full(_) | Phase::Running(_) => return Err(Refusal::Sealed),
-        Phase::Taking(sizes) => sizes,
-    };
+    let sizes = taking(reasoner.phase)?;
     if !statement.fits(&sizes) {
         return Err(Refusal::DoesNotFit);
     }
@@ -76,6 +75,17 @@ pub fn add<K: Kind>(
         return Err(Refusal::RowsTaken);
     }
     Ok(())
+}
+
+// The sizes of a base that takes statements; refuses with 1, and with 6 a base that is sealed.
+fn taking(phase: Phase) -> Result<Sizes, Refusal>
+    ensures { MatchResult result (λ n. phase ≡ Taking n) (λ e. ((e ≡ NotBegun) × (is_begun phase ≡ false)) ⊎ ((e ≡ Sealed) × (is_sealed phase ≡ true))) }
+{
+    match phase {
+        Phase::Idle => Err(Refusal::NotBegun),
+        Phase::Taking(sizes) => Ok(sizes),
+        Phase::Running(_) | Phase::Full(_) => Err(Refusal::Sealed),
+    }
 }
 
 // Seals the base and settles n statements, unless the run stands ended or full before: how many, and how it stands.
