@@ -7,7 +7,7 @@ use Rattle.standpoint.specs.Algebra.{Algebra}
 use Rattle.standpoint.specs.Derivations.{Leaf}
 use Rattle.runs.specs.Runs.{Settled, Offers, Known, Run, StandsFull, AllSettled}
 use Rattle.runs.specs.Runs.Run.{fresh, settles}
-use Rattle.worked.proofs.Bases.{bare}
+use Rattle.worked.specs.Bases.{bare}
 use Rattle.runs.proofs.Lists.{of_map, in_map}
 use Rattle.runs.proofs.Distinct.{no_longer}
 use Rattle.runs.proofs.Offers.{new_or_old, statements, apart_run}

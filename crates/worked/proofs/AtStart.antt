@@ -8,7 +8,7 @@ use Rattle.standpoint.specs.Rules.{Tautology}
 use Rattle.standpoint.specs.Derivations.{Leaf}
 use Rattle.runs.specs.Runs.{Settled, Offers, Next, Settling}
 use Rattle.runs.specs.Runs.Settling.{no_more_asked, no_more_to_do, one_more}
-use Rattle.worked.proofs.Bases.{bare}
+use Rattle.worked.specs.Bases.{bare}
 use Rattle.runs.proofs.Grades.{no_worse_itself, no_worse_same, above_first}
 use Rattle.runs.proofs.Lists.{of_map, in_map}
 use Rattle.runs.proofs.Offers.{statements}

@@ -12,7 +12,8 @@ use Rattle.runs.specs.declared.Stand.TheVariants.{Ended, Full}
 use Rattle.runs.specs.Runs.{Settled, Unsettled, Run, AllSettled, Stands, Settling}
 use Rattle.runs.specs.Runs.Run.{fresh}
 use Rattle.runs.specs.Model.{smaller_or, each, model}
-use Rattle.worked.proofs.Bases.{bare, ComesTo, BareOnRows}
+use Rattle.worked.specs.Bases.{bare}
+use Rattle.worked.proofs.Bases.{ComesTo, BareOnRows}
 use Rattle.runs.proofs.Offers.{statements}
 use Rattle.runs.proofs.OneRun.{stops, one_settling, one_stand, settling_run, still_ended}
 use Rattle.runs.proofs.Told.{settled_told}

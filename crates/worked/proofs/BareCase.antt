@@ -23,7 +23,8 @@ use Rattle.replay.specs.Pasts.{Outcome, outcome_at}
 use Rattle.replay.specs.Performing.{Performed, none, one_more}
 use Rattle.worked.specs.Lists.{sizes, bare_calls, bare_refused, bare_full, bare_ended, bare_outcomes}
 use Rattle.worked.specs.Cases.{ComeTo}
-use Rattle.worked.proofs.Bases.{bare, ComesTo, BareOnRows}
+use Rattle.worked.specs.Bases.{bare}
+use Rattle.worked.proofs.Bases.{ComesTo, BareOnRows}
 use Rattle.worked.proofs.Ranges.{ranged}
 use Rattle.worked.proofs.Calling.{begun, too_few, settled, settle_refused, asked, ask_refused}
 use Rattle.worked.proofs.Outcomes.{told_by_places}

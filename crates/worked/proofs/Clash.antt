@@ -6,7 +6,7 @@ use Rattle.standpoint.specs.Statements.{same, contradiction}
 use Rattle.standpoint.specs.GradeLaws.{same_made, tally_laws, odds_laws}
 use Rattle.runs.specs.Model.{smaller_or, each}
 use Rattle.reasoner.specs.Asking.{BestGrade}
-use Rattle.worked.proofs.Bases.{clash}
+use Rattle.worked.specs.Bases.{clash}
 use Rattle.worked.proofs.LetterLaws.{letter_laws}
 use Rattle.worked.proofs.Graded.{best_by_run}
 

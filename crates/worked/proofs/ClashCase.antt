@@ -10,7 +10,7 @@ use Rattle.replay.specs.Pasts.{outcome_at}
 use Rattle.replay.specs.Performing.{none, one_more}
 use Rattle.worked.specs.Lists.{sizes, clash_calls, clash_outcomes}
 use Rattle.worked.specs.Cases.{ComeTo}
-use Rattle.worked.proofs.Bases.{clash}
+use Rattle.worked.specs.Bases.{clash}
 use Rattle.worked.proofs.Ranges.{ranged}
 use Rattle.worked.proofs.Calling.{begun, added}
 use Rattle.worked.proofs.Ending.{EndsAt}

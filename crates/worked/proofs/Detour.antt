@@ -13,7 +13,7 @@ use Rattle.standpoint.specs.Rules.Rule.{role_transitive, sharper_transitive, sha
 use Rattle.standpoint.specs.Derivations.{Leaf, Derives}
 use Rattle.standpoint.specs.GradeLaws.{same_made}
 use Rattle.reasoner.specs.Asking.{BestGrade}
-use Rattle.worked.proofs.Bases.{detour}
+use Rattle.worked.specs.Bases.{detour}
 
 -- no derivation of s sharper than u has a smaller tally
 abbrev least : ℕ → ℕ → ℕ

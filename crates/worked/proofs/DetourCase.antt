@@ -11,7 +11,7 @@ use Rattle.replay.specs.Pasts.{outcome_at}
 use Rattle.replay.specs.Performing.{none, one_more}
 use Rattle.worked.specs.Lists.{sizes, detour_calls, detour_outcomes}
 use Rattle.worked.specs.Cases.{ComeTo}
-use Rattle.worked.proofs.Bases.{detour}
+use Rattle.worked.specs.Bases.{detour}
 use Rattle.worked.proofs.Ranges.{ranged}
 use Rattle.worked.proofs.Calling.{begun, added}
 use Rattle.worked.proofs.Detour.{detour_wins}

@@ -10,7 +10,7 @@ use Rattle.runs.specs.declared.Stand.{Stand}
 use Rattle.runs.specs.declared.Stand.TheVariants.{Ended}
 use Rattle.runs.specs.Runs.{Settled, Stands, Settling}
 use Rattle.runs.specs.Model.{smaller_or, each, model}
-use Rattle.worked.proofs.Bases.{clash, detour}
+use Rattle.worked.specs.Bases.{clash, detour}
 use Rattle.runs.proofs.OneRun.{one_settling, still_ended, ended_settling}
 use Rattle.worked.proofs.LetterLaws.{letter_laws}
 use Rattle.runs.proofs.Modelled.{model_settles}

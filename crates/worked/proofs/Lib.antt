@@ -14,5 +14,6 @@ pub mod Settling
 pub mod BareCase
 pub mod ClashCase
 pub mod DetourCase
+pub mod Runs
 pub mod Together
 pub mod Replaying

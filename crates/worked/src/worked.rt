@@ -3,6 +3,7 @@ ghost use Rattle.std.specs.Prelude.{◌≡◌};
 ghost use Rattle.std.proofs.Common.{lit≤};
 ghost use Rattle.standpoint.specs.declared.kinds.grades.LetterGrade.TheVariants.{D};
 ghost use Rattle.standpoint.specs.Grades.{tally_grade, odds_grade};
+ghost use Rattle.worked.specs.Bases.{WorkedRuns};
 ghost use Rattle.worked.specs.Cases.{WorkedCases, joins};
 ghost use Rattle.worked.specs.Lists.{bare_outcomes, clash_outcomes, detour_outcomes};
 
@@ -35,6 +36,7 @@ pub struct Worked {
 // is accepted, on memory of any size and for this kind.
 pub fn worked_cases<K: Kind>(kind: &K) -> Worked
     ensures cases { WorkedCases (K.Kind.algebra kind.now) }
+    ensures runs { WorkedRuns }
     ensures on_three { result.on_three ≡ bare_outcomes 3 }
     ensures on_four { result.on_four ≡ bare_outcomes 4 }
     ensures on_five { result.on_five ≡ bare_outcomes 5 }
